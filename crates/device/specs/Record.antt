@@ -1,0 +1,103 @@
+-- Document 01, "What the controller holds".
+use Prim.Native.Nat.{ℕ}
+use mathlib.Core.Bool.{Bool, false, not}
+use mathlib.Core.List.{List, []}
+use lib.Dec.{eqb}
+use lib.ListN.{getD, replicate}
+use Rattle.kad.specs.declared.Kads.{Kads}
+use Rattle.page.specs.Fields.{noFields}
+use Rattle.page.specs.declared.Fields.{Fields}
+use Rattle.device.specs.declared.Supplemental.{Supplemental}
+use Rattle.device.specs.declared.Set.{Set}
+use Rattle.device.specs.declared.Marks.{Marks}
+use Rattle.device.specs.declared.Nexus.{Nexus}
+use Rattle.device.specs.declared.Device.{Device}
+
+-- "Sizes: nexuses 0 to 15; set places 0 to 4"
+abbrev pub nexusCount : ℕ
+nexusCount = 16
+
+abbrev pub placeCount : ℕ
+placeCount = 5
+
+-- the bytes of all supplemental keys of a set
+abbrev pub supplementalSize : ℕ
+supplementalSize = 128
+
+-- the record, whatever its sizes
+pub record State : Type 0 where
+  pub counter : ℕ
+  pub sets : List Set
+  pub nexuses : List Nexus
+
+abbrev pub state : Device → State
+state d = record { counter = d .counter; sets = d .sets; nexuses = d .nexuses }
+
+abbrev pub device : State → Device
+device s = record { counter = s .counter; sets = s .sets; nexuses = s .nexuses }
+
+-- codes of a scope
+abbrev pub publicScope : ℕ
+publicScope = 0
+
+abbrev pub localScope : ℕ
+localScope = 1
+
+abbrev pub allScope : ℕ
+allScope = 2
+
+-- no supplemental keys
+abbrev pub noSupplemental : Supplemental
+noSupplemental = record { count = 0; keys = replicate supplementalSize 0 }
+
+-- a set made from a page's fields; "supplemental keys start at none"
+abbrev pub established : ℕ → ℕ → ℕ → Fields → Set
+established owner scope number fields = record { owner = owner; scope = scope; number = number; fields = fields; supplemental = noSupplemental }
+
+-- "An empty place 0 is the default set: modes, index and scope zero"; "every empty place is zero but for its instance number"
+abbrev pub emptySet : ℕ → Set
+emptySet number = established 0 0 number noFields
+
+abbrev pub noMarks : Marks
+noMarks = record { registered = false; another = false; vendor = false }
+
+abbrev pub newNexus : Nexus
+newNexus = record { scope = 0; lock = false; saved = 0; lastLocal = 0; marks = noMarks }
+
+-- "Power-on .. gives all zeros"
+unfoldable pub powerOn : ℕ → ℕ → State
+powerOn nexuses places = record { counter = 0; sets = replicate places (emptySet 0); nexuses = replicate nexuses newNexus }
+
+-- what is read past the end of the places: no set has empty lists of bytes
+abbrev pub noSet : Set
+noSet = record {
+  owner = 0;
+  scope = 0;
+  number = 0;
+  fields = record {
+    encryption = 0;
+    decryption = 0;
+    index = 0;
+    ceem = 0;
+    rdmd = false;
+    ckod = false;
+    ckorp = false;
+    ckorl = false;
+    key = [];
+    kads = record { ukad = record { length = 0; bytes = [] }; akad = record { length = 0; bytes = [] } };
+  };
+  supplemental = record { count = 0; keys = [] };
+}
+
+abbrev pub setAt : State → ℕ → Set
+setAt s place = getD (s .sets) place noSet
+
+abbrev pub nexusAt : State → ℕ → Nexus
+nexusAt s n = getD (s .nexuses) n newNexus
+
+-- "A place is used when its set's scope isn't 0"
+abbrev pub empty : Set → Bool
+empty set = eqb (set .scope) 0
+
+abbrev pub used : Set → Bool
+used set = not (empty set)

@@ -1,0 +1,3 @@
+pub mod Kad
+pub mod Reading
+pub mod Writing

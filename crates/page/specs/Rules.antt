@@ -1,0 +1,63 @@
+-- Document 01, "The Set Data Encryption page (0010h)": its rules. p is the page, a list of bytes.
+-- A rule names the byte that a fault points to; the rules stand in the order of the bytes.
+use Prim.Native.Nat.{ℕ, _+_}
+use mathlib.Core.Bool.{Bool, not, _&&_, _||_}
+use mathlib.Core.List.{List, [], _∷_, _++_}
+use lib.Dec.{ltb, leb, eqb}
+use lib.ListN.{length, take, drop}
+use Rattle.arrays.specs.Base.{pick}
+use Rattle.wire.specs.Numbers.{byteAt}
+use Rattle.wire.specs.Rules.{Rule, rule, zeroRules}
+use Rattle.page.specs.Fields.{pageCode, pageLength, scopeOf, reservedOf, rdmcOf, encryptionOf, decryptionOf, indexOf, headSize, keySize, keyLengthOf, keyEnd, encrypts, decrypts}
+
+-- "Answer 7: fewer than 20 bytes, or page length plus 4 isn't the byte count"
+abbrev pub lengthWrong : List ℕ → Bool
+lengthWrong p = ltb (length p) headSize || not (eqb (pageLength p + 4) (length p))
+
+-- "page code other than 0010h; SCOPE other than 0 PUBLIC, 1 LOCAL, 2 ALL"
+unfoldable pub openRules : List ℕ → List Rule
+openRules p = rule 0 (eqb (pageCode p) 0x10) ∷ rule 4 (leb (scopeOf p) 2) ∷ []
+
+-- LOCAL or ALL, SDK 0, bytes 4 to 7: "bits 4–1 of byte 4 zero"; "RDMC 01b is wrong under ENCRYPT";
+-- "encryption mode 0 DISABLE, 1 EXTERNAL, 2 ENCRYPT; decryption mode 0 DISABLE, 1 RAW, 2 DECRYPT, 3 MIXED"
+unfoldable pub modeRules : List ℕ → List Rule
+modeRules p =
+    rule 4 (eqb (reservedOf p) 0)
+    ∷ rule 5 (not (encrypts (encryptionOf p) && eqb (rdmcOf p) 1))
+    ∷ rule 6 (leb (encryptionOf p) 2)
+    ∷ rule 7 (leb (decryptionOf p) 3)
+    ∷ []
+
+-- bytes 8 to 17: "algorithm 1; both formats 0"; "bytes 11–17 zero"
+unfoldable pub plainRules : List ℕ → List Rule
+plainRules p =
+    rule 8 (eqb (indexOf p) 1) ∷ rule 9 (eqb (byteAt p 9) 0) ∷ rule 10 (eqb (byteAt p 10) 0) ∷ zeroRules 11 (take 7 (drop 11 p))
+
+-- "Key length is 32 where encryption is 2 or decryption is 2 or 3, otherwise 0 (house)"
+abbrev pub keyLength : ℕ → ℕ → ℕ
+keyLength encryption decryption = pick (encrypts encryption || decrypts decryption) keySize 0
+
+-- the key length; "With either SDK, a key that runs past the page's end is a fault"
+unfoldable pub keyRules : List ℕ → ℕ → List Rule
+keyRules p wanted = rule 18 (eqb (keyLengthOf p) wanted) ∷ rule 18 (leb (keyEnd p) (length p)) ∷ []
+
+-- LOCAL or ALL, SDK 0, up to the key's end
+unfoldable pub setRules : List ℕ → List Rule
+setRules p = modeRules p ++ (plainRules p ++ keyRules p (keyLength (encryptionOf p) (decryptionOf p)))
+
+-- LOCAL or ALL, SDK 1, bytes 4 to 7: "The nexus's scope equals SCOPE; byte 7 equals that set's mode and is 2 or 3; reserved parts"
+unfoldable pub matchRules : List ℕ → ℕ → ℕ → List Rule
+matchRules p scope mode =
+    rule 4 (eqb (scopeOf p) scope)
+    ∷ rule 4 (eqb (reservedOf p) 0)
+    ∷ rule 7 (eqb (decryptionOf p) mode)
+    ∷ rule 7 (decrypts mode)
+    ∷ []
+
+-- "no descriptors": the page ends with the key
+unfoldable pub endRules : List ℕ → List Rule
+endRules p = rule (headSize + keySize) (leb (length p) (headSize + keySize)) ∷ []
+
+-- LOCAL or ALL, SDK 1, the whole page
+unfoldable pub supplementalRules : List ℕ → ℕ → ℕ → List Rule
+supplementalRules p scope mode = matchRules p scope mode ++ (plainRules p ++ (keyRules p keySize ++ endRules p))

@@ -1,0 +1,47 @@
+-- A number and its bytes.
+-- Assumes nothing.
+use mathlib.Core.Path.{_≡_, refl}
+use mathlib.Core.List.{[], _∷_}
+use Prim.Native.Nat.{ℕ, _+_, _*_, _/_, _%_, _<_}
+use native.Mathlib.Omega.{arith}
+use lib.Pow.{shr-shr}
+use Rattle.wire.specs.Numbers.{word, number, two, four}
+
+-- two bytes make less than 65,536
+pub word-below : (a b : ℕ) → a < 256 → b < 256 → word a b < 65536
+word-below a b h l = omega arith
+
+-- four bytes make less than 4,294,967,296
+pub number-below : (a b c d : ℕ) → a < 256 → b < 256 → c < 256 → d < 256 → number a b c d < 4294967296
+number-below a b c d h i j k = omega arith
+
+-- a number below 256 is in the lower byte
+pub two-small : (n : ℕ) → n < 256 → two n ≡ 0 ∷ n ∷ []
+two-small n h = let p : n / 256 % 256 ≡ 0 = omega arith in let q : n % 256 ≡ n = omega arith in rw (p, q) refl
+
+-- the two bytes of a number give it back
+pub word-two : (n : ℕ) → n < 65536 → word (n / 256 % 256) (n % 256) ≡ n
+word-two n h = omega arith
+
+-- the bytes of two bytes' number are these
+pub two-word : (a b : ℕ) → a < 256 → b < 256 → two (word a b) ≡ a ∷ b ∷ []
+two-word a b h l = let p : word a b / 256 % 256 ≡ a = omega arith in let q : word a b % 256 ≡ b = omega arith in rw (p, q) refl
+
+-- the four bytes of a number give it back
+pub number-four : (n : ℕ) → n < 4294967296 → number (n / 16777216 % 256) (n / 65536 % 256) (n / 256 % 256) (n % 256) ≡ n
+number-four n h =
+    let p : n / 256 / 256 ≡ n / 65536 = shr-shr n 8 8 in
+    let q : n / 65536 / 256 ≡ n / 16777216 = shr-shr n 16 8 in
+    let high : n / 16777216 % 256 * 256 + n / 65536 % 256 ≡ n / 65536 = omega arith in
+    let low : n / 65536 * 256 + n / 256 % 256 ≡ n / 256 = omega arith in
+    omega arith
+
+-- the bytes of four bytes' number are these
+pub four-number : (a b c d : ℕ) → a < 256 → b < 256 → c < 256 → d < 256 → four (number a b c d) ≡ a ∷ b ∷ c ∷ d ∷ []
+four-number a b c d h i j k =
+    let n = number a b c d in
+    let p : n / 16777216 % 256 ≡ a = omega arith in
+    let q : n / 65536 % 256 ≡ b = omega arith in
+    let r : n / 256 % 256 ≡ c = omega arith in
+    let s : n % 256 ≡ d = omega arith in
+    rw (p, q, r, s) refl

@@ -1,0 +1,82 @@
+-- Bytes of document 01's pages, taken apart and put together.
+use Prim.Native.Nat.{ℕ}
+use mathlib.Core.Path.{_≡_, refl}
+use mathlib.Core.Bool.{true, false}
+use mathlib.Core.List.{List, [], _∷_}
+use Rattle.wire.specs.Numbers.{byteAt, wordAt, numberAt, two, four}
+use Rattle.wire.specs.Fields.{setByte4, setByte5, statusByte4, joined4, statusByte12, joined12}
+use Rattle.wire.specs.Buffers.{shown, padded, allZero}
+use Rattle.wire.specs.Rules.{breach, zeroRules}
+
+-- page K's bytes 0 to 5, "length 0030h, byte 4 21h, byte 5 44h"
+abbrev k : List ℕ
+k = 0x00 ∷ 0x10 ∷ 0x00 ∷ 0x30 ∷ 0x21 ∷ 0x44 ∷ []
+
+k-code : wordAt k 0 ≡ 0x10
+k-code = refl
+
+k-length : wordAt k 2 ≡ 48
+k-length = refl
+
+-- SCOPE 1, locked
+k-byte-4 : setByte4 (byteAt k 4) ≡ record { scope = 1; reserved = 0; lock = true }
+k-byte-4 = refl
+
+-- CEEM 1, CKOD
+k-byte-5 : setByte5 (byteAt k 5) ≡ record { ceem = 1; rdmc = 0; sdk = false; ckod = true; ckorp = false; ckorl = false }
+k-byte-5 = refl
+
+-- a byte past the end is 0
+k-past : wordAt k 5 ≡ 0x4400
+k-past = refl
+
+-- every bit set
+full-4 : setByte4 0xFF ≡ record { scope = 7; reserved = 15; lock = true }
+full-4 = refl
+
+full-5 : setByte5 0xFF ≡ record { ceem = 3; rdmc = 3; sdk = true; ckod = true; ckorp = true; ckorl = true }
+full-5 = refl
+
+full-status-4 : statusByte4 0xFF ≡ record { nexusScope = 7; zeros = 3; setScope = 7 }
+full-status-4 = refl
+
+full-status-12 : statusByte12 0xFF ≡ record { zeros = 31; ceems = 3; rdmd = true }
+full-status-12 = refl
+
+-- P2's status, bytes 4, 8 to 11 and 12: "21 .. 00 00 00 01 02"
+p2-byte-4 : joined4 1 1 ≡ 0x21
+p2-byte-4 = refl
+
+p2-number : four 1 ≡ 0x00 ∷ 0x00 ∷ 0x00 ∷ 0x01 ∷ []
+p2-number = refl
+
+p2-byte-12 : joined12 1 false ≡ 0x02
+p2-byte-12 = refl
+
+-- a PUBLIC nexus that a set with scope ALL serves
+public-of-all : joined4 0 2 ≡ 0x02
+public-of-all = refl
+
+-- the order of the bytes
+page-code : two 0x0120 ≡ 0x01 ∷ 0x20 ∷ []
+page-code = refl
+
+number-order : numberAt (0x01 ∷ 0x02 ∷ 0x03 ∷ 0x04 ∷ []) 0 ≡ 0x01020304
+number-order = refl
+
+-- a page in a shorter buffer, and in a longer one
+short-buffer : shown (1 ∷ 2 ∷ 3 ∷ []) (8 ∷ 9 ∷ []) ≡ 1 ∷ 2 ∷ []
+short-buffer = refl
+
+long-buffer : shown (1 ∷ []) (8 ∷ 9 ∷ []) ≡ 1 ∷ 9 ∷ []
+long-buffer = refl
+
+four-bytes : padded 4 (5 ∷ 6 ∷ []) ≡ 5 ∷ 6 ∷ 0 ∷ 0 ∷ []
+four-bytes = refl
+
+-- bytes 11 to 13, of which byte 12 is not zero
+zeros-broken : breach (zeroRules 11 (0 ∷ 7 ∷ 1 ∷ [])) 14 ≡ 12
+zeros-broken = refl
+
+not-all-zero : allZero (0 ∷ 7 ∷ []) ≡ false
+not-all-zero = refl

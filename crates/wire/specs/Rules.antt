@@ -1,0 +1,24 @@
+-- A rule of a page: the byte that a breach of it points to, and whether it holds.
+use Prim.Native.Nat.{ℕ, suc}
+use mathlib.Core.Bool.{Bool}
+use mathlib.Core.List.{List, [], _∷_}
+use lib.Dec.{eqb}
+use Rattle.arrays.specs.Base.{pick}
+
+pub record Rule : Type 0 where
+  pub at : ℕ
+  pub holds : Bool
+
+-- the rule that points to byte i, and holds where ok is true
+abbrev pub rule : ℕ → Bool → Rule
+rule i ok = record { at = i; holds = ok }
+
+-- the byte of the first rule that breaks; top where none does
+abbrev pub breach : List Rule → ℕ → ℕ
+breach [] top = top
+breach (r ∷ rs) top = pick (r .holds) (breach rs top) (r .at)
+
+-- each of these bytes, of which the first stands at byte i, is zero, and is a field of its own
+abbrev pub zeroRules : ℕ → List ℕ → List Rule
+zeroRules i [] = []
+zeroRules i (b ∷ bytes) = rule i (eqb b 0) ∷ zeroRules (suc i) bytes
