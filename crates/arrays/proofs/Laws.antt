@@ -15,6 +15,7 @@ module _ {A : Type 0} (p : ℕ → A → Bool) (d : A) where
   abbrev eachFrom : ℕ → List A → Bool
   eachFrom = foldFrom (λ k x r. p k x && r) true
 
+  -- from any element on
   each-from : (xs : List A) (b : ℕ) → eachFrom b xs ≡ true → (k : ℕ) → k < length xs → p (b + k) (getD xs k d) ≡ true
   each-from [] b e k h = absurd (not-suc-le-zero h)
   each-from (x ∷ xs) b e zero h = rw add-zero (and-left (p b x) (eachFrom (suc b) xs) e)
@@ -24,6 +25,7 @@ module _ {A : Type 0} (p : ℕ → A → Bool) (d : A) where
   pub each-at : (xs : List A) → each p xs ≡ true → (k : ℕ) → k < length xs → p k (getD xs k d) ≡ true
   each-at xs e k h = rw zero-add at (each-from xs 0 e k h)
 
+  -- from any element on
   each-made : (xs : List A) (b : ℕ) → ((k : ℕ) → k < length xs → p (b + k) (getD xs k d) ≡ true) → eachFrom b xs ≡ true
   each-made [] b f = refl
   each-made (x ∷ xs) b f =
@@ -34,6 +36,7 @@ module _ {A : Type 0} (p : ℕ → A → Bool) (d : A) where
   each-of xs f = each-made xs 0 (λ k h. rw zero-add (f k h))
 
 module _ {A R : Type 0} (at : ℕ → R) (none : R) (p : ℕ → A → Bool) (d : A) (P : R → Type 0) where
+  -- from any element on
   find-from : (xs : List A) (b : ℕ) → ((k : ℕ) → k < length xs → p (b + k) (getD xs k d) ≡ true → P (at (b + k))) → P none → P (foldFrom (λ k x r. pick (p k x) (at k) r) none b xs)
   find-from [] b f n = n
   find-from (x ∷ xs) b f n =
@@ -77,20 +80,21 @@ pub foldFrom-same : {A R : Type 0} (g h : ℕ → A → R → R) (z : R) → ((i
 foldFrom-same g h z e k [] = refl
 foldFrom-same g h z e k (x ∷ xs) = e k x _ ∙ ap (λ (r : _). h k x r) (foldFrom-same g h z e (suc k) xs)
 
--- past the end too, where f keeps the default
+-- the element at any index, where f keeps the default
 pub getD-mapFrom-kept : {A : Type 0} (f : ℕ → A → A) (d : A) → ((i : ℕ) → f i d ≡ d) → (k : ℕ) (xs : List A) (i : ℕ) → getD (mapFrom f k xs) i d ≡ f (k + i) (getD xs i d)
 getD-mapFrom-kept f d e k xs i = getD-from f k xs i d d (λ l. sym (e (k + i)))
 
--- a test of each element, without its index: of the first and of the rest
 module _ {A : Type 0} (p : A → Bool) where
+  -- where the count begins does not matter
   all-from : (i j : ℕ) (xs : List A) → foldFrom (λ k x r. p x && r) true i xs ≡ foldFrom (λ k x r. p x && r) true j xs
   all-from i j [] = refl
   all-from i j (x ∷ xs) = ap (λ (r : Bool). p x && r) (all-from (suc i) (suc j) xs)
 
+  -- a test of each element, without its index: of the first and of the rest
   pub all-cons : (x : A) (xs : List A) → all p (x ∷ xs) ≡ (p x && all p xs)
   all-cons x xs = ap (λ (r : Bool). p x && r) (all-from 1 0 xs)
 
-  -- of two lists joined
+  -- a test of two lists joined
   pub all-append : (xs ys : List A) → all p (xs ++ ys) ≡ (all p xs && all p ys)
   all-append [] ys = refl
   all-append (x ∷ xs) ys = rw (all-cons x (xs ++ ys), all-append xs ys, all-cons x xs) (sym (and-assoc (p x) (all p xs) (all p ys)))
