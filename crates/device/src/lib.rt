@@ -9,10 +9,15 @@ ghost use Rattle.device.specs.Selecting.{owns, ownedPlace, orElse, selec
 ghost use Rattle.device.specs.WellFormed.{fieldCodes, setCodes, keysPast, setTails, scopeFits, fieldsZero, setZero, emptyIsZero, setGood, nexusGood, ownerIsLocal, hasAll, wellFormed};
 
 pub const NEXUSES: usize = 16;
+
 pub const PLACES: usize = 5;
+
 const SUPPLEMENTAL_MOST: u8 = 4;
+
 const KEY_SIZE: usize = 32;
+
 const LOCAL: u8 = 1;
+
 const ALL: u8 = 2;
 
 // Up to four supplemental keys of 32 bytes, one after another; bytes past the count are zero.
@@ -146,11 +151,7 @@ fn or_else(found: Found, other: usize) -> usize
 fn nexus_of(nexuses: [Nexus; NEXUSES], n: usize) -> Nexus
     ensures { λ r. ⌜ r ≡ getD nexuses n newNexus ⌝ }
 {
-    if n < NEXUSES {
-        nexuses[n]
-    } else {
-        Nexus::NEW
-    }
+    if n < NEXUSES { nexuses[n] } else { Nexus::NEW }
 }
 
 pub fn nexus_at(d: Device, n: usize) -> Nexus
@@ -224,9 +225,7 @@ fn set_tails(set: Set) -> bool
 fn scope_fits(set: Set, place: usize) -> bool
     ensures { λ r. ⌜ r ≡ scopeFits place set ⌝ }
 {
-    (set.scope == 0)
-        | ((place == 0) & (set.scope == ALL))
-        | ((place != 0) & (set.scope == LOCAL))
+    (set.scope == 0) | ((place == 0) & (set.scope == ALL)) | ((place != 0) & (set.scope == LOCAL))
 }
 
 fn fields_zero(f: Fields) -> bool
@@ -234,6 +233,7 @@ fn fields_zero(f: Fields) -> bool
 {
     let key = f.key;
     let kads = f.kads;
+    let key_zero = wire::all_zero(&key);
     (f.encryption == 0)
         & (f.decryption == 0)
         & (f.index == 0)
@@ -242,7 +242,7 @@ fn fields_zero(f: Fields) -> bool
         & !f.ckod
         & !f.ckorp
         & !f.ckorl
-        & wire::all_zero(&key)
+        & key_zero
         & kad::is_zero(kads)
 }
 
@@ -252,11 +252,12 @@ fn set_zero(set: Set) -> bool
 {
     let fields = set.fields;
     let keys = set.supplemental.keys;
+    let keys_zero = wire::all_zero(&keys);
     (set.owner == 0)
         & (set.scope == 0)
         & fields_zero(fields)
         & (set.supplemental.count == 0)
-        & wire::all_zero(&keys)
+        & keys_zero
 }
 
 // An empty place is zero but for its instance number.

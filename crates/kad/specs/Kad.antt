@@ -1,5 +1,6 @@
 -- Key-associated data: U-KAD of 0 to 32 bytes, A-KAD of 0 to 12.
 use Prim.Native.Nat.{ℕ}
+use mathlib.Core.Path.{_≡_}
 use mathlib.Core.Bool.{Bool, _&&_}
 use mathlib.Core.List.{List}
 use lib.Dec.{leb, eqb}
@@ -42,6 +43,10 @@ lengthsGood k = leb (k .ukad .length) uMost && leb (k .akad .length) aMost
 -- bytes past a length are zero
 abbrev pub tailsGood : Kads → Bool
 tailsGood k = allZero (drop (k .ukad .length) (k .ukad .bytes)) && allZero (drop (k .akad .length) (k .akad .bytes))
+
+-- the arrays have their sizes
+abbrev pub Sized : Kads → Type 0
+Sized k = (length (k .ukad .bytes) ≡ uMost) × (length (k .akad .bytes) ≡ aMost)
 
 -- zero, all of it
 abbrev pub kadsZero : Kads → Bool

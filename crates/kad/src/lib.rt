@@ -1,17 +1,19 @@
 // Key-associated data: read from a list of descriptors, and written as one.
 ghost use mathlib.Core.Path.{_≡_};
 ghost use Prim.Native.Nat.{_+_, _<_, _≤_, min};
-ghost use mathlib.Core.List.{_++_};
-ghost use lib.ListN.{length, take};
+ghost use lib.ListN.{length};
 ghost use lib.Seq.{sets};
 ghost use Rattle.wire.specs.Rules.{breach};
-ghost use Rattle.kad.specs.Kad.{uMost, aMost, uKad, aKad, withData, lengthsGood, tailsGood, kadsZero};
+ghost use Rattle.kad.specs.Kad.{uMost, withData, lengthsGood, tailsGood, kadsZero};
 ghost use Rattle.kad.specs.Reading.{headSize, most, rising, descriptorRules, listed, readKads};
 ghost use Rattle.kad.specs.Writing.{descriptor, listMost, written};
 
 const U_MOST: usize = 32;
+
 const A_MOST: usize = 12;
+
 const HEAD_SIZE: usize = 4;
+
 const LIST_MOST: usize = 52;
 
 // Up to 32 bytes; those past the length are zero.
@@ -194,10 +196,10 @@ fn put_descriptor(buffer: &mut [u8], at: usize, kind: u8, bytes: &[u8]) -> usize
     requires { ⌜ (at ≤ listMost) × (length (now bytes) ≤ uMost) ⌝ }
     ensures { λ r. ⌜ (r ≡ at + length (descriptor kind (now (bytes .entry)))) × (now (buffer .exit) ≡ sets (now (buffer .entry)) at (descriptor kind (now (bytes .entry)))) ⌝ }
 {
-    let length = bytes.len();
-    if length == 0 {
+    if bytes.len() == 0 {
         return at;
     }
+    let length = bytes.len();
     let head = [kind, 0u8, 0, length as u8];
     wire::put(buffer, at, &head);
     wire::put(buffer, at + HEAD_SIZE, bytes);

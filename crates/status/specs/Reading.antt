@@ -9,6 +9,7 @@ use Rattle.arrays.specs.Base.{pick}
 use Rattle.wire.specs.Numbers.{byteAt, wordAt, numberAt}
 use Rattle.wire.specs.Fields.{statusByte4, statusByte12}
 use Rattle.wire.specs.Buffers.{allZero}
+use Rattle.wire.specs.Rules.{lengthWrong}
 use Rattle.answer.specs.declared.Answer.{Answer}
 use Rattle.answer.specs.declared.Answer.the-variants.{Done, PageLengthWrong, FieldWrong}
 use Rattle.kad.specs.Kad.{noKads}
@@ -20,9 +21,6 @@ use Rattle.status.specs.declared.StatusRead.{StatusRead}
 -- the bytes before the descriptors
 abbrev pub headSize : ℕ
 headSize = 24
-
-abbrev pub lengthWrong : List ℕ → Bool
-lengthWrong p = ltb (length p) headSize || not (eqb (wordAt p 2 + 4) (length p))
 
 -- byte 4: both scopes 0 to 2, zeros between them
 abbrev pub scopesGood : ℕ → Bool
@@ -74,5 +72,5 @@ refused answer = record { answer = answer; status = noStatus }
 
 unfoldable pub readStatus : List ℕ → StatusRead
 readStatus p =
-    pick (lengthWrong p) (refused PageLengthWrong)
+    pick (lengthWrong headSize p) (refused PageLengthWrong)
     (pick (headGood p && listGood (drop headSize p)) (record { answer = Done; status = values p }) (refused FieldWrong))

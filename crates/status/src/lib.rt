@@ -12,7 +12,7 @@ ghost use Rattle.wire.specs.Buffers.{Shown};
 ghost use Rattle.device.specs.Record.{state};
 ghost use Rattle.status.specs.Pages.{supportedIn, supportedOut, capabilities};
 ghost use Rattle.status.specs.Status.{statusFields, statusBytes, statusWith, statusOf};
-ghost use Rattle.status.specs.Reading.{headSize, lengthWrong, scopesGood, headGood, valuesWith, refused, readStatus};
+ghost use Rattle.status.specs.Reading.{headSize, scopesGood, headGood, valuesWith, refused, readStatus};
 
 const HEAD_SIZE: usize = 24;
 
@@ -154,12 +154,6 @@ fn scopes_good(b: u8) -> bool
     (byte4.nexusScope <= 2) & (byte4.zeros == 0) & (byte4.setScope <= 2)
 }
 
-fn is_length_wrong(page: &[u8]) -> bool
-    ensures { λ r. ⌜ r ≡ lengthWrong (now (page .entry)) ⌝ }
-{
-    (page.len() < HEAD_SIZE) | (wire::word_at(page, 2) + 4 != page.len())
-}
-
 // The page's first 24 bytes, past the length, are those of a status page.
 fn head_good(page: &[u8]) -> bool
     requires { ⌜ headSize ≤ length (now page) ⌝ }
@@ -208,7 +202,7 @@ fn refuse(answer: Answer) -> StatusRead
 pub fn read_status(page: &[u8]) -> StatusRead
     ensures { λ r. ⌜ r ≡ readStatus (now (page .entry)) ⌝ }
 {
-    if is_length_wrong(page) {
+    if wire::is_length_wrong(page, HEAD_SIZE) {
         return refuse(Answer::PageLengthWrong);
     }
     if !head_good(page) {

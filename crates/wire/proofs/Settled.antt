@@ -42,6 +42,8 @@ use Rattle.wire.proofs.all_zero.Reads as all-zero
 use Rattle.wire.proofs.all_zero.Kinds as all-zero-kinds
 use Rattle.wire.proofs.zero_from.Reads as zero-from
 use Rattle.wire.proofs.zero_from.Kinds as zero-from-kinds
+use Rattle.wire.proofs.is_length_wrong.Reads as is-length-wrong
+use Rattle.wire.proofs.is_length_wrong.Kinds as is-length-wrong-kinds
 
 pub byte-at-settles : SettlesAnswer 1 byte-at-kinds.ps byte-at-kinds.r byte-at.Post
 byte-at-settles κs a x y s t p q = same p q
@@ -99,3 +101,6 @@ all-zero-settles κs a x y s t p q = same p q
 
 pub zero-from-settles : SettlesAnswer 1 zero-from-kinds.ps zero-from-kinds.r zero-from.Post
 zero-from-settles κs a x y s t p q = same p q
+
+pub is-length-wrong-settles : SettlesAnswer 1 is-length-wrong-kinds.ps is-length-wrong-kinds.r is-length-wrong.Post
+is-length-wrong-settles κs a x y s t p q = same p q

@@ -1,10 +1,17 @@
--- A rule of a page: the byte that a breach of it points to, and whether it holds.
-use Prim.Native.Nat.{ℕ, suc}
-use mathlib.Core.Bool.{Bool}
+-- Rules of pages.
+use Prim.Native.Nat.{ℕ, suc, _+_}
+use mathlib.Core.Bool.{Bool, not, _||_}
 use mathlib.Core.List.{List, [], _∷_}
-use lib.Dec.{eqb}
+use lib.Dec.{ltb, eqb}
+use lib.ListN.{length}
 use Rattle.arrays.specs.Base.{pick}
+use Rattle.wire.specs.Numbers.{wordAt}
 
+-- a page's bytes 2–3 are "the count of bytes after byte 3": it has fewer bytes than the least, or not as many as it says
+abbrev pub lengthWrong : ℕ → List ℕ → Bool
+lengthWrong least p = ltb (length p) least || not (eqb (wordAt p 2 + 4) (length p))
+
+-- a rule: the byte that a breach of it points to, and whether it holds
 pub record Rule : Type 0 where
   pub at : ℕ
   pub holds : Bool

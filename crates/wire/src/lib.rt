@@ -6,7 +6,7 @@ ghost use lib.Seq.{sets};
 ghost use Rattle.wire.specs.Numbers.{byteAt, word, number, wordAt, two, four};
 ghost use Rattle.wire.specs.Fields.{setByte4, setByte5, statusByte4, joined4, statusByte12, joined12};
 ghost use Rattle.wire.specs.Buffers.{Shown, padded, allZero};
-ghost use Rattle.wire.specs.Rules.{breach, zeroRules};
+ghost use Rattle.wire.specs.Rules.{lengthWrong, breach, zeroRules};
 
 // The byte at an index, 0 past the end.
 pub fn byte_at(s: &[u8], at: usize) -> u8
@@ -218,4 +218,11 @@ pub fn zero_from(s: &[u8], from: usize) -> bool
     } else {
         true
     }
+}
+
+// A page has fewer bytes than the least, or not as many as its bytes 2 and 3 say.
+pub fn is_length_wrong(page: &[u8], least: usize) -> bool
+    ensures { λ r. ⌜ r ≡ lengthWrong least (now (page .entry)) ⌝ }
+{
+    (page.len() < least) | (word_at(page, 2) + 4 != page.len())
 }

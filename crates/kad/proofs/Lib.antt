@@ -1,0 +1,8 @@
+pub mod Reading
+pub mod Writing
+pub mod Good
+pub mod RoundTrip
+pub mod Accepted
+pub mod Lowest
+pub mod Worked
+pub mod Settled

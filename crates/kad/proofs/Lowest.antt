@@ -1,0 +1,110 @@
+-- The first fault of a list of descriptors is the lowest byte at which a rule of any of them breaks.
+-- Assumes nothing.
+use mathlib.Core.Path.{_≡_, refl, sym}
+use mathlib.Core.Logic.{_⊎_}
+use mathlib.Core.List.{List, [], _∷_, _++_}
+use Prim.Native.Nat.{ℕ, zero, suc, _+_, _≤_}
+use native.Mathlib.Nat.{not-suc-le-zero, le-refl, zero-add, add-zero}
+use native.Mathlib.Omega.{arith}
+use borrow.Author.Tests.{ltb-true, ltb-false}
+use lib.Dec.{ltb}
+use lib.ListN.{length, drop, length-drop}
+use Rattle.arrays.proofs.Base.{cases, pick-map}
+use Rattle.wire.specs.Rules.{Rule, rule, breach}
+use Rattle.wire.proofs.Rules.{Under, Sorted, BreaksAt, low, high, lowest, breaks, sorted-from, sorted-append}
+use Rattle.kad.specs.Kad.{noKads, withData}
+use Rattle.kad.specs.Reading.{headSize, typeOf, dataOf, nextOf, descriptorRules, listed, readKads}
+use Rattle.kad.specs.declared.Kads.{Kads}
+use Rattle.kad.specs.declared.Seen.{Seen}
+use Rattle.kad.specs.declared.Seen.the-variants.{Nothing, Last}
+use Rattle.kad.proofs.Reading.{rules-under, room}
+
+-- ---- rules moved to where a descriptor stands
+
+-- the same rules, each pointing i bytes further
+abbrev pub shifted : ℕ → List Rule → List Rule
+shifted i [] = []
+shifted i (r ∷ rs) = rule (i + r .at) (r .holds) ∷ shifted i rs
+
+-- their breach lies i bytes further
+pub shifted-breach : (i : ℕ) (rs : List Rule) (top : ℕ) → breach (shifted i rs) (i + top) ≡ i + breach rs top
+shifted-breach i [] top = refl
+shifted-breach i (r ∷ rs) top = rw (shifted-breach i rs top) (sym (pick-map (λ (n : ℕ). i + n) (r .holds) (breach rs top) (r .at)))
+
+-- they point below a byte i further
+pub shifted-under : (i m : ℕ) (rs : List Rule) → Under m rs → Under (i + m) (shifted i rs)
+shifted-under i m [] u = tt
+shifted-under i m (r ∷ rs) u = (omega arith, shifted-under i m rs (u .1))
+
+-- and stand in the same order
+pub shifted-sorted : (i m : ℕ) (rs : List Rule) → Sorted m rs → Sorted (i + m) (shifted i rs)
+shifted-sorted i m [] s = tt
+shifted-sorted i m (r ∷ rs) s = (omega arith, shifted-sorted i (r .at) rs (s .1))
+
+-- ---- the rules of a list
+
+-- the rules of all descriptors of a list of at most n bytes that starts at byte i
+unfoldable pub listRules : ℕ → ℕ → List ℕ → Seen → List Rule
+listRules zero i s seen = []
+listRules (suc n) i [] seen = []
+listRules (suc n) i (b ∷ s) seen =
+    let next = nextOf (b ∷ s) in
+    shifted i (descriptorRules (b ∷ s) seen) ++ listRules n (i + next) (drop next (b ∷ s)) (Last (typeOf (b ∷ s)))
+
+-- those of one descriptor stand in the order of its bytes
+rules-sorted : (s : List ℕ) (seen : Seen) → Sorted 0 (descriptorRules s seen)
+unfolding descriptorRules
+rules-sorted s seen = omega arith
+
+-- and those of a list in the order of the list's, from its first on
+pub list-sorted : (n i : ℕ) (s : List ℕ) (seen : Seen) → Sorted i (listRules n i s seen)
+unfolding listRules
+list-sorted zero i s seen = tt
+list-sorted (suc n) i [] seen = tt
+list-sorted (suc n) i (b ∷ s) seen =
+    let next = nextOf (b ∷ s) in
+    let more = listRules n (i + next) (drop next (b ∷ s)) (Last b) in
+    sorted-append (shifted i (descriptorRules (b ∷ s) seen)) more i (i + headSize) (rw add-zero at (shifted-sorted i 0 (descriptorRules (b ∷ s) seen) (rules-sorted (b ∷ s) seen)))
+    (shifted-under i headSize (descriptorRules (b ∷ s) seen) (rules-under (b ∷ s) seen)) (omega arith)
+    (sorted-from more (i + headSize) (i + next) (omega arith) (list-sorted n (i + next) (drop next (b ∷ s)) (Last b)))
+
+-- The reader's first fault is where the first rule breaks; without one, all bytes to the list's end are good.
+pub first-fault : (n i : ℕ) (s : List ℕ) (seen : Seen) (k : Kads) → length s ≤ n → i + listed n s seen k .good ≡ breach (listRules n i s seen) (i + length s)
+unfolding listed listRules
+first-fault zero i [] seen k h = refl
+first-fault zero i (b ∷ s) seen k h = absurd (not-suc-le-zero h)
+first-fault (suc n) i [] seen k h = refl
+first-fault (suc n) i (b ∷ s) seen k h =
+    let l = b ∷ s in
+    let next = nextOf l in
+    let rest = drop next l in
+    let rules = shifted i (descriptorRules l seen) in
+    let more = listRules n (i + next) rest (Last b) in
+    let fault = breach (descriptorRules l seen) headSize in
+    let moved : i + fault ≡ breach rules (i + headSize) = sym (shifted-breach i (descriptorRules l seen) headSize) in
+    cases (ltb fault headSize)
+    (λ t. rw t (sym (low rules more (i + length l) (i + headSize) (i + fault) moved (omega (arith, ltb-true fault headSize t)))))
+    (λ t.
+    let past : headSize ≤ fault = ltb-false fault headSize t in
+    let fits = room l seen past .0 in
+    let size = length-drop next l in
+    let ends : i + next + length rest ≡ i + length l = omega arith in
+    let decides = high rules more (i + length l) (i + headSize) (i + fault) (shifted-under i headSize (descriptorRules l seen) (rules-under l seen)) moved (omega arith) in
+    let others = first-fault n (i + next) rest (Last b) (withData k b (dataOf l)) (omega arith) in
+    rw (t, decides, ← ends, ← others) (omega arith))
+
+-- the rules of a whole list
+abbrev pub rulesOf : List ℕ → List Rule
+rulesOf l = listRules (length l) 0 l Nothing
+
+-- the same of a list read by itself
+pub list-fault : (l : List ℕ) → readKads l .good ≡ breach (rulesOf l) (length l)
+list-fault l = simp zero-add at (first-fault (length l) 0 l Nothing noKads (le-refl (length l)))
+
+-- No rule of any descriptor breaks at a byte below the first fault,
+pub no-lower : (l : List ℕ) (i : ℕ) → BreaksAt i (rulesOf l) → readKads l .good ≤ i
+no-lower l i b = rw (list-fault l) (lowest (rulesOf l) (length l) 0 i (list-sorted (length l) 0 l Nothing) b)
+
+-- and one breaks there, or the whole list is good.
+pub breaks-there : (l : List ℕ) → (readKads l .good ≡ length l) ⊎ BreaksAt (readKads l .good) (rulesOf l)
+breaks-there l = rw (list-fault l) (breaks (rulesOf l) (length l))
