@@ -11,7 +11,9 @@ ghost use Rattle.page.specs.Rules.{lengthWrong, openRules, modeRules, pl
 ghost use Rattle.page.specs.Check.{refused, publicPage, supplementalPage, setPage, checked};
 
 const HEAD_SIZE: usize = 20;
+
 const KEY_SIZE: usize = 32;
+
 const SUPPLEMENTAL_MOST: u8 = 4;
 
 // What a page says of a set.

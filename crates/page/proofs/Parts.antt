@@ -1,0 +1,122 @@
+-- The parts of a page's rules: bytes 4 to 7, bytes 8 to 17, the key, the end.
+-- Assumes nothing.
+use mathlib.Core.Path.{_≡_, sym, _∙_}
+use mathlib.Core.Bool.{true, false, not}
+use mathlib.Core.List.{List, [], _∷_, _++_}
+use Prim.Native.Nat.{ℕ, _+_, _<_, _≤_}
+use native.Mathlib.Nat.{le-refl, le-of-lt, not-le-of-lt, zero-add}
+use native.Mathlib.Omega.{arith}
+use borrow.Author.Tests.{eqb-true, ltb-false, leb-true, leb-false}
+use lib.Dec.{ltb, leb, eqb}
+use lib.ListN.{length, take, drop, length-take}
+use Rattle.arrays.proofs.Base.{cases, clash, or-left, pick-elim}
+use Rattle.wire.specs.Rules.{Rule, breach, zeroRules}
+use Rattle.wire.proofs.Rules.{AllHold, Under, kept, low, high, rest, under-more, zeros-under}
+use Rattle.page.specs.Fields.{pageLength, headSize, keySize, encryptionOf, decryptionOf, keyLengthOf, keyEnd}
+use Rattle.page.specs.Rules.{lengthWrong, openRules, modeRules, plainRules, keyLength, keyRules, setRules, matchRules, endRules, supplementalRules}
+
+-- ---- the bytes that each part points to
+
+-- the page code and the scope
+pub open-under : (p : List ℕ) → Under 5 (openRules p)
+unfolding openRules
+open-under p = omega arith
+
+-- bytes 4 to 7 with SDK 0
+pub mode-under : (p : List ℕ) → Under 8 (modeRules p)
+unfolding modeRules
+mode-under p = omega arith
+
+-- bytes 4 to 7 with SDK 1
+pub match-under : (p : List ℕ) (scope mode : ℕ) → Under 8 (matchRules p scope mode)
+unfolding matchRules
+match-under p scope mode = omega arith
+
+-- bytes 8 to 17
+pub plain-under : (p : List ℕ) → Under 18 (plainRules p)
+unfolding plainRules
+plain-under p =
+    let bytes = take 7 (drop 11 p) in
+    (omega arith, (omega arith, (omega arith, under-more (zeroRules 11 bytes) (11 + length bytes) 18 (omega (arith, length-take 7 (drop 11 p))) (zeros-under 11 bytes))))
+
+-- the key
+pub key-under : (p : List ℕ) (wanted m : ℕ) → 19 ≤ m → Under m (keyRules p wanted)
+unfolding keyRules
+key-under p wanted m l = (omega arith, (omega arith, tt))
+
+-- ---- rules in general
+
+-- where no rule below m breaks, the first hold
+pub first-hold : (xs ys : List Rule) (top m : ℕ) → Under m xs → m ≤ breach (xs ++ ys) top → AllHold xs
+first-hold [] ys top m u l = tt
+first-hold (r ∷ xs) ys top m u l =
+    pick-elim (λ (x : ℕ). m ≤ x → (r .holds ≡ true) × AllHold xs) (r .holds) (λ e k. (e, first-hold xs ys top m (u .1) k)) (λ e k. absurd (not-le-of-lt (u .0) k)) l
+
+-- where the rules point below the end, so does the first breach, or it is the end
+pub breach-within : (rs : List Rule) (top : ℕ) → Under top rs → breach rs top ≤ top
+breach-within [] top u = le-refl top
+breach-within (r ∷ rs) top u = pick-elim (λ (x : ℕ). x ≤ top) (r .holds) (λ e. breach-within rs top (u .1)) (λ e. le-of-lt (u .0))
+
+-- the first byte that is not zero is one of the bytes
+pub first-within : (bytes : List ℕ) → breach (zeroRules 0 bytes) (length bytes) ≤ length bytes
+first-within bytes = breach-within (zeroRules 0 bytes) (length bytes) (rw zero-add at (zeros-under 0 bytes))
+
+-- ---- rules of bytes 4 to 7, then of bytes 8 to 17, then others
+
+-- a breach of the first is that of all
+pub front-breaks : (xs ys : List Rule) (p : List ℕ) (top q : ℕ) → q ≡ breach xs 8 → q < 8 → q ≡ breach (xs ++ (plainRules p ++ ys)) top
+front-breaks xs ys p top q e l = sym (low xs (plainRules p ++ ys) top 8 q e l)
+
+-- where they hold, a breach of bytes 8 to 17
+pub plain-breaks : (xs ys : List Rule) (p : List ℕ) (top a q : ℕ) → Under 8 xs → a ≡ breach xs 8 → 8 ≤ a → q ≡ breach (plainRules p) 18 → q < 18 → q ≡ breach (xs ++ (plainRules p ++ ys)) top
+plain-breaks xs ys p top a q u d k e l = sym (high xs (plainRules p ++ ys) top 8 a u d k ∙ low (plainRules p) ys top 18 q e l)
+
+-- where both hold, the others decide
+pub others-decide : (xs ys : List Rule) (p : List ℕ) (top a b : ℕ) → Under 8 xs → a ≡ breach xs 8 → 8 ≤ a → b ≡ breach (plainRules p) 18 → 18 ≤ b → breach (xs ++ (plainRules p ++ ys)) top ≡ breach ys top
+others-decide xs ys p top a b u d k e l = high xs (plainRules p ++ ys) top 8 a u d k ∙ high (plainRules p) ys top 18 b (plain-under p) e l
+
+-- where none breaks, the first two hold, and none of the others breaks
+pub parts-hold : (xs ys : List Rule) (p : List ℕ) (n : ℕ) → Under 8 xs → 18 ≤ n → n ≤ breach (xs ++ (plainRules p ++ ys)) n → AllHold xs × (AllHold (plainRules p) × (n ≤ breach ys n))
+parts-hold xs ys p n u l h =
+    let front = under-more xs 8 n (omega arith) u in
+    let plain = under-more (plainRules p) 18 n l (plain-under p) in
+    let later = rest xs (plainRules p ++ ys) n n front h in
+    (first-hold xs (plainRules p ++ ys) n n front h, (first-hold (plainRules p) ys n n plain later, rest (plainRules p) ys n n plain later))
+
+-- ---- the length
+
+-- a page whose length isn't wrong has its first 20 bytes
+pub head-there : (p : List ℕ) → lengthWrong p ≡ false → headSize ≤ length p
+head-there p e =
+    let wrong = not (eqb (pageLength p + 4) (length p)) in
+    cases (ltb (length p) headSize) (λ t. clash (or-left (ltb (length p) headSize) wrong t) e) (λ t. ltb-false _ _ t)
+
+-- ---- a page of which no rule breaks
+
+-- with SDK 0 each part holds
+pub set-hold : (p : List ℕ) → headSize ≤ length p → length p ≤ breach (setRules p) (length p) → AllHold (modeRules p) × (AllHold (plainRules p) × AllHold (keyRules p (keyLength (encryptionOf p) (decryptionOf p))))
+unfolding setRules
+set-hold p l h =
+    let wanted = keyLength (encryptionOf p) (decryptionOf p) in
+    let all = parts-hold (modeRules p) (keyRules p wanted) p (length p) (mode-under p) (omega arith) h in
+    (all .0, (all .1 .0, kept (keyRules p wanted) (length p) (length p) (key-under p wanted (length p) (omega arith)) (all .1 .1)))
+
+-- the page ends with the key
+end-hold : (p : List ℕ) → length p ≤ breach (endRules p) (length p) → AllHold (endRules p)
+unfolding endRules
+end-hold p h =
+    cases (leb (length p) (headSize + keySize)) (λ e. (e, tt)) (λ e. absurd (not-le-of-lt (leb-false _ _ e) (rw e at h)))
+
+-- with SDK 1 too
+pub supplemental-hold : (p : List ℕ) (scope mode : ℕ) → headSize ≤ length p → length p ≤ breach (supplementalRules p scope mode) (length p) → AllHold (matchRules p scope mode) × (AllHold (plainRules p) × (AllHold (keyRules p keySize) × AllHold (endRules p)))
+unfolding supplementalRules
+supplemental-hold p scope mode l h =
+    let n = length p in
+    let all = parts-hold (matchRules p scope mode) (keyRules p keySize ++ endRules p) p n (match-under p scope mode) (omega arith) h in
+    let key = key-under p keySize n (omega arith) in
+    (all .0, (all .1 .0, (first-hold (keyRules p keySize) (endRules p) n n key (all .1 .1), end-hold p (rest (keyRules p keySize) (endRules p) n n key (all .1 .1)))))
+
+-- the key has the length that is asked, and lies within the page
+pub key-fits : (p : List ℕ) (wanted : ℕ) → AllHold (keyRules p wanted) → (keyLengthOf p ≡ wanted) × (keyEnd p ≤ length p)
+unfolding keyRules
+key-fits p wanted h = (eqb-true _ _ (h .0), leb-true _ _ (h .1 .0))
