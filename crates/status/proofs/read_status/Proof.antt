@@ -1,0 +1,61 @@
+use borrow.Author.Needs.{needs}
+use mathlib.Core.Path.{_≡_, sym, ap, _∙_}
+use mathlib.Core.Bool.{true, false}
+use mathlib.Core.List.{List}
+use Prim.Native.Nat.{ℕ, _≤_}
+use borrow.Author.Tests.{not-true, not-false}
+use denote.Ref.{now}
+use lib.ListN.{length}
+use Rattle.wire.specs.Rules.{lengthWrong}
+use Rattle.answer.specs.declared.Answer.the-variants.{Done}
+use Rattle.status.specs.Reading.{headSize, headGood}
+use Rattle.status.specs.declared.Status.{Status}
+use Rattle.status.specs.declared.StatusRead.{StatusRead}
+use Rattle.status.proofs.Reading.{refused-length, long, refused-head, refused-list, accepted}
+use Rattle.status.proofs.read_status.Statement.{statement}
+use Rattle.status.proofs.read_status.Tie as tie
+
+-- past the first test the length is right
+abbrev page : tie.Else1 → List ℕ
+page c = now (c .before .before .before .args .page)
+
+right : (c : tie.Else1) → lengthWrong headSize (page c) ≡ false
+right c = sym (c .before .is-length-wrong .ensures) ∙ c .if1 .left
+
+has-head : (c : tie.Else1) → headSize ≤ length (page c)
+has-head c = long (page c) (right c)
+
+-- past the second the first 24 bytes are good
+good-head : (c : tie.Else2) → headGood (page (c .before .before)) ≡ true
+good-head c = sym (c .before .head-good .ensures) ∙ not-false _ (c .if2 .left)
+
+pub read-status-spec : {M : Type 1} → statement M
+read-status-spec =
+    tie.close
+    (tie.spec
+    (λ c κs. search needs)
+    (λ c κs. search needs)
+    (λ c.
+    let at-length = c .before .before in
+    c .refuse .ensures ∙ sym (refused-length (now (at-length .before .before .args .page)) (sym (at-length .is-length-wrong .ensures) ∙ c .before .if1 .taken)))
+    (λ c κs. has-head c)
+    (λ c κs. search needs)
+    (λ c.
+    let at-length = c .before .before .before in
+    c .refuse2 .ensures ∙ sym (refused-head (page at-length) (right at-length) (sym (c .before .before .head-good .ensures) ∙ not-true _ (c .before .if2 .taken))))
+    (λ c. has-head (c .before .before))
+    (λ c. has-head (c .before .before))
+    (λ c. search needs)
+    (λ c κs. search needs)
+    (λ c. has-head (c .before .before .before .before))
+    (λ c κs. search needs)
+    (λ c.
+    let at-head = c .before .before .before .before .before in
+    let at-length = at-head .before .before in
+    c .refuse3 .ensures ∙ sym (refused-list (page at-length) (right at-length) (good-head at-head) (c .before .before .before .read .ensures .0) (c .before .if3 .taken)))
+    (λ c κs. has-head (c .before .before .before .before .before .before .before))
+    (λ c.
+    let at-head = c .before .before .before .before .before .before in
+    let at-length = at-head .before .before in
+    ap (λ (s : Status). record { answer = Done; status = s }) (c .values-with .ensures)
+    ∙ sym (accepted (page at-length) (right at-length) (good-head at-head) (c .before .before .before .before .read .ensures .0) (c .before .before .if3 .left))))

@@ -1,0 +1,39 @@
+use borrow.Author.Needs.{needs}
+use mathlib.Core.Path.{sym, ap}
+use native.Mathlib.Omega.{arith}
+use denote.Ref.{now}
+use lib.ListN.{length}
+use lib.Seq.{length-take-le}
+use Rattle.wire.proofs.Stores.{length-padded}
+use Rattle.kad.specs.Writing.{descriptors, listMost}
+use Rattle.kad.specs.declared.Written.{Written}
+use Rattle.status.proofs.Writing.{stored}
+use Rattle.status.proofs.write_status.Statement.{statement}
+use Rattle.status.proofs.write_status.Tie as tie
+
+prefix : tie.Need-array-share-prefix-bytes
+prefix c =
+    let w = c .before .before .before .before .before .before .before .before .write in
+    omega (arith, w .ensures .1, ap (λ (x : Written). length (x .bytes)) (w .ensures .0), length-padded listMost (descriptors (c .before .before .before .before .before .before .before .before .before .before .before .args .s .kads)))
+
+pub write-status-spec : {M : Type 1} → statement M
+write-status-spec =
+    tie.close
+    (tie.spec
+    (λ c κs. search needs)
+    (λ c. search needs)
+    (λ c. search needs)
+    (λ c κs. search needs)
+    (λ c. search needs)
+    (λ c κs. search needs)
+    prefix
+    (λ c. sym (length-take-le _ _ (prefix (c .before))))
+    (λ c κs. search needs)
+    (λ c. search needs)
+    (λ c. search needs)
+    (λ c.
+    let first = c .before .before .before .before .before .before .before in
+    let head = first .before .before .before in
+    let list = head .before .before in
+    let start = list .before .before .before in
+    stored (start .args .s) (now (start .args .buffer)) (list .write .ensures .0) (list .write .ensures .1) (head .status-head .ensures) (first .put .ensures) (c .before .before .put2 .ensures)))
