@@ -2,7 +2,7 @@
 -- Assumes nothing.
 use Prim.Native.Nat.{ℕ}
 use mathlib.Core.Path.{_≡_, refl, sym, _∙_}
-use mathlib.Core.Bool.{Bool, true, false, _&&_, _||_}
+use mathlib.Core.Bool.{Bool, true, false, not, _&&_, _||_, or-false}
 use native.Mathlib.Omega.{arith}
 use Rattle.arrays.specs.Base.{pick}
 
@@ -40,6 +40,30 @@ pub or-right : (a b : Bool) → b ≡ true → (a || b) ≡ true
 or-right true b e = refl
 or-right false b e = e
 
+-- each of them holds where both do
+pub and-both : (a b : Bool) → (a && b) ≡ true → (a ≡ true) × (b ≡ true)
+and-both a b e = (and-left a b e, and-right a b e)
+
+-- where one of them holds and the first does not, the second does
+pub or-other : (a b : Bool) → (a || b) ≡ true → a ≡ false → b ≡ true
+or-other true b e f = clash refl f
+or-other false b e f = e
+
+-- one of them holds where the second does whenever the first does not
+pub or-of : (a b : Bool) → (a ≡ false → b ≡ true) → (a || b) ≡ true
+or-of true b f = refl
+or-of false b f = f refl
+
+-- where one of them, the first denied, holds, the second follows from the first
+pub or-then : (a b : Bool) → (not a || b) ≡ true → a ≡ true → b ≡ true
+or-then true b e t = e
+or-then false b e t = clash t refl
+
+-- and where it follows, one of them, the first denied, holds
+pub then-or : (a b : Bool) → (a ≡ true → b ≡ true) → (not a || b) ≡ true
+then-or true b f = f refl
+then-or false b f = refl
+
 -- what holds of each case where it is picked holds of what is picked
 pub pick-elim : {A : Type 0} (P : A → Type 0) (b : Bool) {x y : A} → (b ≡ true → P x) → (b ≡ false → P y) → P (pick b x y)
 pick-elim P true f g = f refl
@@ -54,3 +78,9 @@ pick-map f false x y = refl
 pub pick-same : {A : Type 0} (b : Bool) (x : A) → pick b x x ≡ x
 pick-same true x = refl
 pick-same false x = refl
+
+-- a choice told by "and" and "or" is a pick
+pub or-pick : (e z a b : Bool) → ((e || (z && a)) || (not z && b)) ≡ (e || pick z a b)
+or-pick true z a b = refl
+or-pick false true a b = or-false a
+or-pick false false a b = refl

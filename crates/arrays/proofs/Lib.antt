@@ -1,4 +1,5 @@
 pub mod Base
+pub mod Counting
 pub mod Laws
 pub mod Loops
 pub mod Words

@@ -1,5 +1,3 @@
-pub mod Bools
-pub mod Counting
 pub mod Selecting
 pub mod Settled
 pub mod WellFormed

@@ -8,7 +8,8 @@ use native.Mathlib.Omega.{arith}
 use borrow.Author.Tests.{eqb-true, eq-eqb}
 use lib.Dec.{eqb}
 use lib.ListN.{length, getD}
-use Rattle.arrays.proofs.Base.{both, pick-elim}
+use Rattle.arrays.proofs.Base.{both, pick-elim, and-both}
+use Rattle.arrays.proofs.Counting.{count-unique, find-counted, find-none}
 use Rattle.arrays.proofs.Laws.{find-by}
 use Rattle.device.specs.Record.{State, setAt, nexusAt, noSet, used, localScope}
 use Rattle.device.specs.Selecting.{owns, ownedPlace, orElse, selected}
@@ -16,8 +17,6 @@ use Rattle.device.specs.WellFormed.{wellFormed}
 use Rattle.device.specs.declared.Set.{Set}
 use Rattle.device.specs.declared.Found.{Found}
 use Rattle.device.specs.declared.Found.the-variants.{At, Nowhere}
-use Rattle.device.proofs.Bools.{and-both}
-use Rattle.device.proofs.Counting.{count-unique, find-counted, find-none}
 use Rattle.device.proofs.WellFormed.{place-local, local-place, used-within, scope-at, nexus-at, owner-at}
 
 -- ---- in any record

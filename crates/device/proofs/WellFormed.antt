@@ -10,7 +10,8 @@ use lib.Dec.{lit≤, eqb, ltb}
 use lib.ListN.{length, getD, length-replicate, getD-replicate, List·getD-eq-default}
 use Rattle.arrays.specs.Base.{pick}
 use Rattle.arrays.specs.Arrays.{each, count}
-use Rattle.arrays.proofs.Base.{cases, both, clash, pick-elim, pick-map}
+use Rattle.arrays.proofs.Base.{cases, both, clash, pick-elim, pick-map, and-both, or-other, or-of, or-then, then-or, or-pick}
+use Rattle.arrays.proofs.Counting.{count-none, count-same, count-unique}
 use Rattle.arrays.proofs.Laws.{each-at, each-of}
 use Rattle.wire.specs.Buffers.{allZero}
 use Rattle.kad.specs.Kad.{lengthsGood, tailsGood, kadsZero}
@@ -21,8 +22,6 @@ use Rattle.device.specs.Selecting.{owns}
 use Rattle.device.specs.WellFormed.{fieldCodes, keysPast, scopeFits, fieldsZero, setZero, emptyIsZero, setGood, localOwnsOne, allOwnsFirst, nexusGood, ownerIsLocal, hasAll, wellFormed}
 use Rattle.device.specs.declared.Set.{Set}
 use Rattle.device.specs.declared.Nexus.{Nexus}
-use Rattle.device.proofs.Counting.{count-none, count-same, count-unique}
-use Rattle.device.proofs.Bools.{and-both, or-other, or-of, or-then, then-or, or-pick}
 
 -- ---- a set's fields
 

@@ -1,3 +1,4 @@
 pub mod Record
+pub mod Updates
 pub mod Selecting
 pub mod WellFormed

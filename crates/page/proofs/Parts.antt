@@ -8,12 +8,13 @@ use native.Mathlib.Nat.{le-refl, le-of-lt, not-le-of-lt, zero-add}
 use native.Mathlib.Omega.{arith}
 use borrow.Author.Tests.{eqb-true, ltb-false, leb-true, leb-false}
 use lib.Dec.{ltb, leb, eqb}
-use lib.ListN.{length, take, drop, length-take}
+use lib.ListN.{length, drop, length-take}
 use Rattle.arrays.proofs.Base.{cases, clash, or-left, pick-elim}
-use Rattle.wire.specs.Rules.{Rule, breach, zeroRules}
+use Rattle.wire.specs.Numbers.{wordAt}
+use Rattle.wire.specs.Rules.{lengthWrong, Rule, breach, zeroRules}
 use Rattle.wire.proofs.Rules.{AllHold, Under, kept, low, high, rest, under-more, zeros-under}
-use Rattle.page.specs.Fields.{pageLength, headSize, keySize, encryptionOf, decryptionOf, keyLengthOf, keyEnd}
-use Rattle.page.specs.Rules.{lengthWrong, openRules, modeRules, plainRules, keyLength, keyRules, setRules, matchRules, endRules, supplementalRules}
+use Rattle.page.specs.Fields.{reservedFrom, reservedSize, reservedBytes, headSize, keySize, keyedSize, encryptionOf, decryptionOf, keyLengthOf, keyEnd}
+use Rattle.page.specs.Rules.{openRules, modeRules, plainRules, keyLength, keyRules, setRules, matchRules, endRules, supplementalRules}
 
 -- ---- the bytes that each part points to
 
@@ -36,8 +37,9 @@ match-under p scope mode = omega arith
 pub plain-under : (p : List ℕ) → Under 18 (plainRules p)
 unfolding plainRules
 plain-under p =
-    let bytes = take 7 (drop 11 p) in
-    (omega arith, (omega arith, (omega arith, under-more (zeroRules 11 bytes) (11 + length bytes) 18 (omega (arith, length-take 7 (drop 11 p))) (zeros-under 11 bytes))))
+    let bytes = reservedBytes p in
+    let ends : reservedFrom + length bytes ≤ 18 = omega (arith, length-take reservedSize (drop reservedFrom p)) in
+    (omega arith, (omega arith, (omega arith, under-more (zeroRules reservedFrom bytes) (reservedFrom + length bytes) 18 ends (zeros-under reservedFrom bytes))))
 
 -- the key
 pub key-under : (p : List ℕ) (wanted m : ℕ) → 19 ≤ m → Under m (keyRules p wanted)
@@ -85,11 +87,11 @@ parts-hold xs ys p n u l h =
 
 -- ---- the length
 
--- a page whose length isn't wrong has its first 20 bytes
-pub head-there : (p : List ℕ) → lengthWrong p ≡ false → headSize ≤ length p
-head-there p e =
-    let wrong = not (eqb (pageLength p + 4) (length p)) in
-    cases (ltb (length p) headSize) (λ t. clash (or-left (ltb (length p) headSize) wrong t) e) (λ t. ltb-false _ _ t)
+-- a page whose length isn't wrong has at least its least bytes
+pub least-there : (least : ℕ) (p : List ℕ) → lengthWrong least p ≡ false → least ≤ length p
+least-there least p e =
+    let wrong = not (eqb (wordAt p 2 + 4) (length p)) in
+    cases (ltb (length p) least) (λ t. clash (or-left (ltb (length p) least) wrong t) e) (λ t. ltb-false _ _ t)
 
 -- ---- a page of which no rule breaks
 
@@ -104,11 +106,11 @@ set-hold p l h =
 -- the page ends with the key
 end-hold : (p : List ℕ) → length p ≤ breach (endRules p) (length p) → AllHold (endRules p)
 unfolding endRules
-end-hold p h =
-    cases (leb (length p) (headSize + keySize)) (λ e. (e, tt)) (λ e. absurd (not-le-of-lt (leb-false _ _ e) (rw e at h)))
+end-hold p h = cases (leb (length p) keyedSize) (λ e. (e, tt)) (λ e. absurd (not-le-of-lt (leb-false _ _ e) (rw e at h)))
 
 -- with SDK 1 too
-pub supplemental-hold : (p : List ℕ) (scope mode : ℕ) → headSize ≤ length p → length p ≤ breach (supplementalRules p scope mode) (length p) → AllHold (matchRules p scope mode) × (AllHold (plainRules p) × (AllHold (keyRules p keySize) × AllHold (endRules p)))
+pub supplemental-hold : (p : List ℕ) (scope mode : ℕ) → headSize ≤ length p → length p ≤ breach (supplementalRules p scope mode) (length p)
+    → AllHold (matchRules p scope mode) × (AllHold (plainRules p) × (AllHold (keyRules p keySize) × AllHold (endRules p)))
 unfolding supplementalRules
 supplemental-hold p scope mode l h =
     let n = length p in

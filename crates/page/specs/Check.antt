@@ -3,14 +3,14 @@
 use Prim.Native.Nat.{ℕ, _+_}
 use mathlib.Core.Bool.{true, false}
 use mathlib.Core.List.{List}
-use lib.Dec.{ltb, leb, eqb}
+use lib.Dec.{ltb, leb}
 use lib.ListN.{length}
 use Rattle.arrays.specs.Base.{pick}
-use Rattle.wire.specs.Rules.{breach}
+use Rattle.wire.specs.Rules.{lengthWrong, breach}
 use Rattle.answer.specs.declared.Answer.{Answer}
 use Rattle.answer.specs.declared.Answer.the-variants.{Done, PageLengthWrong, FieldWrong, FifthSupplementalKey}
-use Rattle.page.specs.Fields.{scopeOf, lockOf, sdkOf, keyEnd, keyOf, listedOf, onlyKey, noFields, setFields}
-use Rattle.page.specs.Rules.{lengthWrong, openRules, setRules, supplementalRules}
+use Rattle.page.specs.Fields.{headSize, scopeOf, isPublic, lockOf, sdkOf, keyEnd, keyOf, listedOf, onlyKey, noFields, setFields}
+use Rattle.page.specs.Rules.{openRules, setRules, supplementalRules}
 use Rattle.page.specs.declared.Page.{Page}
 use Rattle.page.specs.declared.Checked.{Checked}
 
@@ -50,12 +50,12 @@ setPage p =
     (pick (ltb end (length p)) (refused FieldWrong end)
     (accepted (record { scope = scopeOf p; lock = lockOf p; supplemental = false; fields = setFields p })))
 
--- "Answer 7 ..; Answer 8 in every other fault"
+-- "Answer 7: fewer than 20 bytes, or page length plus 4 isn't the byte count. Answer 8 in every other fault"
 unfoldable pub checked : List ℕ → ℕ → ℕ → ℕ → Checked
 checked p scope mode count =
     let fault = breach (openRules p) (length p) in
-    pick (lengthWrong p) (refused PageLengthWrong 0)
+    pick (lengthWrong headSize p) (refused PageLengthWrong 0)
     (pick (ltb fault (length p)) (refused FieldWrong fault)
-    (pick (eqb (scopeOf p) 0) (publicPage p)
+    (pick (isPublic p) (publicPage p)
     (pick (sdkOf p) (supplementalPage p scope mode count)
     (setPage p))))

@@ -13,18 +13,18 @@ use Rattle.kad.specs.Reading.{readKads}
 use Rattle.kad.specs.declared.Kads.{Kads}
 use Rattle.kad.specs.declared.Listed.{Listed}
 use Rattle.page.specs.declared.Fields.{Fields}
-use Rattle.page.specs.declared.Page.{Page}
 
--- "Bytes 0–1 page code; 2–3 page length, the count of bytes after byte 3"
+-- "Bytes 0–1 page code"; 2–3, the page length, are those of every page (`lengthWrong`)
 abbrev pub pageCode : List ℕ → ℕ
 pageCode p = wordAt p 0
-
-abbrev pub pageLength : List ℕ → ℕ
-pageLength p = wordAt p 2
 
 -- "4: SCOPE bits 7–5, LOCK bit 0", with bits 4–1 between them
 abbrev pub scopeOf : List ℕ → ℕ
 scopeOf p = setByte4 (byteAt p 4) .scope
+
+-- SCOPE 0 is PUBLIC
+abbrev pub isPublic : List ℕ → Bool
+isPublic p = eqb (scopeOf p) 0
 
 abbrev pub reservedOf : List ℕ → ℕ
 reservedOf p = setByte4 (byteAt p 4) .reserved
@@ -49,6 +49,16 @@ decryptionOf p = byteAt p 7
 abbrev pub indexOf : List ℕ → ℕ
 indexOf p = byteAt p 8
 
+-- "11–17 reserved"
+abbrev pub reservedFrom : ℕ
+reservedFrom = 11
+
+abbrev pub reservedSize : ℕ
+reservedSize = 7
+
+abbrev pub reservedBytes : List ℕ → List ℕ
+reservedBytes p = take reservedSize (drop reservedFrom p)
+
 -- the bytes before the key
 abbrev pub headSize : ℕ
 headSize = 20
@@ -56,6 +66,10 @@ headSize = 20
 -- the bytes of a key
 abbrev pub keySize : ℕ
 keySize = 32
+
+-- the bytes of a page that ends with a key
+abbrev pub keyedSize : ℕ
+keyedSize = headSize + keySize
 
 -- "18–19 key length; then the key; then descriptors"
 abbrev pub keyLengthOf : List ℕ → ℕ

@@ -1,18 +1,14 @@
 -- Document 01, "The Set Data Encryption page (0010h)": its rules. p is the page, a list of bytes.
 -- A rule names the byte that a fault points to; the rules stand in the order of the bytes.
-use Prim.Native.Nat.{ℕ, _+_}
-use mathlib.Core.Bool.{Bool, not, _&&_, _||_}
+use Prim.Native.Nat.{ℕ}
+use mathlib.Core.Bool.{not, _&&_, _||_}
 use mathlib.Core.List.{List, [], _∷_, _++_}
-use lib.Dec.{ltb, leb, eqb}
-use lib.ListN.{length, take, drop}
+use lib.Dec.{leb, eqb}
+use lib.ListN.{length}
 use Rattle.arrays.specs.Base.{pick}
 use Rattle.wire.specs.Numbers.{byteAt}
 use Rattle.wire.specs.Rules.{Rule, rule, zeroRules}
-use Rattle.page.specs.Fields.{pageCode, pageLength, scopeOf, reservedOf, rdmcOf, encryptionOf, decryptionOf, indexOf, headSize, keySize, keyLengthOf, keyEnd, encrypts, decrypts}
-
--- "Answer 7: fewer than 20 bytes, or page length plus 4 isn't the byte count"
-abbrev pub lengthWrong : List ℕ → Bool
-lengthWrong p = ltb (length p) headSize || not (eqb (pageLength p + 4) (length p))
+use Rattle.page.specs.Fields.{pageCode, scopeOf, reservedOf, rdmcOf, encryptionOf, decryptionOf, indexOf, reservedFrom, reservedBytes, keySize, keyedSize, keyLengthOf, keyEnd, encrypts, decrypts}
 
 -- "page code other than 0010h; SCOPE other than 0 PUBLIC, 1 LOCAL, 2 ALL"
 unfoldable pub openRules : List ℕ → List Rule
@@ -31,7 +27,7 @@ modeRules p =
 -- bytes 8 to 17: "algorithm 1; both formats 0"; "bytes 11–17 zero"
 unfoldable pub plainRules : List ℕ → List Rule
 plainRules p =
-    rule 8 (eqb (indexOf p) 1) ∷ rule 9 (eqb (byteAt p 9) 0) ∷ rule 10 (eqb (byteAt p 10) 0) ∷ zeroRules 11 (take 7 (drop 11 p))
+    rule 8 (eqb (indexOf p) 1) ∷ rule 9 (eqb (byteAt p 9) 0) ∷ rule 10 (eqb (byteAt p 10) 0) ∷ zeroRules reservedFrom (reservedBytes p)
 
 -- "Key length is 32 where encryption is 2 or decryption is 2 or 3, otherwise 0 (house)"
 abbrev pub keyLength : ℕ → ℕ → ℕ
@@ -56,7 +52,7 @@ matchRules p scope mode =
 
 -- "no descriptors": the page ends with the key
 unfoldable pub endRules : List ℕ → List Rule
-endRules p = rule (headSize + keySize) (leb (length p) (headSize + keySize)) ∷ []
+endRules p = rule keyedSize (leb (length p) keyedSize) ∷ []
 
 -- LOCAL or ALL, SDK 1, the whole page
 unfoldable pub supplementalRules : List ℕ → ℕ → ℕ → List Rule

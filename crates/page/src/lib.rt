@@ -7,12 +7,18 @@ ghost use Prim.Native.Nat.{_≤_};
 ghost use lib.ListN.{length};
 ghost use Rattle.wire.specs.Rules.{breach};
 ghost use Rattle.page.specs.Fields.{headSize, encrypts, decrypts, fieldsWith, listOf};
-ghost use Rattle.page.specs.Rules.{lengthWrong, openRules, modeRules, plainRules, keyLength, keyRules, setRules, matchRules, supplementalRules};
+ghost use Rattle.page.specs.Rules.{openRules, modeRules, plainRules, keyLength, keyRules, setRules, matchRules, supplementalRules};
 ghost use Rattle.page.specs.Check.{refused, publicPage, supplementalPage, setPage, checked};
+
+const RESERVED_FROM: usize = 11;
+
+const RESERVED_END: usize = 18;
 
 const HEAD_SIZE: usize = 20;
 
 const KEY_SIZE: usize = 32;
+
+const KEYED_SIZE: usize = HEAD_SIZE + KEY_SIZE;
 
 const SUPPLEMENTAL_MOST: u8 = 4;
 
@@ -91,12 +97,6 @@ fn is_decrypt_or_mixed(mode: u8) -> bool
     (mode == 2) | (mode == 3)
 }
 
-fn is_length_wrong(page: &[u8]) -> bool
-    ensures { λ r. ⌜ r ≡ lengthWrong (now (page .entry)) ⌝ }
-{
-    (page.len() < HEAD_SIZE) | (wire::word_at(page, 2) + 4 != page.len())
-}
-
 // The page code and the scope: the page's length where no rule breaks.
 fn open_fault(page: &[u8]) -> usize
     requires { ⌜ headSize ≤ length (now page) ⌝ }
@@ -149,7 +149,7 @@ fn plain_fault(page: &[u8]) -> usize
     if page[10] != 0 {
         return 10;
     }
-    11 + wire::first_not_zero(&page[11..18])
+    RESERVED_FROM + wire::first_not_zero(&page[RESERVED_FROM..RESERVED_END])
 }
 
 fn key_length(encryption: u8, decryption: u8) -> usize
@@ -232,8 +232,8 @@ fn supplemental_fault(page: &[u8], scope: u8, mode: u8) -> usize
     if key < page.len() {
         return key;
     }
-    if HEAD_SIZE + KEY_SIZE < page.len() {
-        return HEAD_SIZE + KEY_SIZE;
+    if KEYED_SIZE < page.len() {
+        return KEYED_SIZE;
     }
     page.len()
 }
@@ -351,7 +351,7 @@ fn check_public(page: &[u8]) -> Checked
 pub fn check(page: &[u8], scope: u8, mode: u8, count: u8) -> Checked
     ensures { λ r. ⌜ r ≡ checked (now (page .entry)) scope mode count ⌝ }
 {
-    if is_length_wrong(page) {
+    if wire::is_length_wrong(page, HEAD_SIZE) {
         return refuse(Answer::PageLengthWrong, 0);
     }
     let fault = open_fault(page);

@@ -15,7 +15,7 @@ setByte4 b = record { scope = b / 2 ^ 5; reserved = b / 2 ^ 1 % 2 ^ 4; lock = eq
 -- the Set page's byte 5: CEEM bits 7–6, RDMC 5–4, SDK 3, CKOD 2, CKORP 1, CKORL 0
 abbrev pub setByte5 : ℕ → SetByte5
 setByte5 b = record {
-  ceem = b / 2 ^ 6;
+  ceem = b / 2 ^ 6 % 2 ^ 2;
   rdmc = b / 2 ^ 4 % 2 ^ 2;
   sdk = eqb (b / 2 ^ 3 % 2) 1;
   ckod = eqb (b / 2 ^ 2 % 2) 1;

@@ -88,7 +88,7 @@ pub fn set_byte_5(b: u8) -> SetByte5
     ensures { λ r. ⌜ r ≡ setByte5 b ⌝ }
 {
     SetByte5 {
-        ceem: b >> 6,
+        ceem: (b >> 6) & 3,
         rdmc: (b >> 4) & 3,
         sdk: (b >> 3) & 1 == 1,
         ckod: (b >> 2) & 1 == 1,

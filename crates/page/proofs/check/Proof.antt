@@ -6,18 +6,18 @@ use native.Mathlib.Omega.{arith}
 use borrow.Author.Needs.{needs}
 use borrow.Author.Tests.{eq-eqb, ne-eqb, lt-ltb, le-ltb}
 use lib.ListN.{length}
+use Rattle.wire.specs.Rules.{lengthWrong}
 use Rattle.wire.specs.declared.SetByte4.{SetByte4}
 use Rattle.wire.specs.declared.SetByte5.{SetByte5}
 use Rattle.page.specs.Fields.{headSize}
-use Rattle.page.specs.Rules.{lengthWrong}
 use Rattle.page.specs.Check.{checked}
-use Rattle.page.proofs.Parts.{head-there}
+use Rattle.page.proofs.Parts.{least-there}
 use Rattle.page.proofs.check.Statement.{statement}
 use Rattle.page.proofs.check.Tie as tie
 
 -- past the first test the page has its first 20 bytes
-head : (p : List ℕ) (wrong : Bool) → wrong ≡ lengthWrong p → wrong ≡ false → headSize ≤ length p
-head p wrong e f = head-there p (sym e ∙ f)
+head : (p : List ℕ) (wrong : Bool) → wrong ≡ lengthWrong headSize p → wrong ≡ false → headSize ≤ length p
+head p wrong e f = least-there headSize p (sym e ∙ f)
 
 pub check-spec : {M : Type 1} → statement M
 unfolding checked

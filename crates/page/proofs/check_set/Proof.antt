@@ -53,4 +53,14 @@ check-set-spec =
     (λ c κs. search needs)
     (λ c κs. search needs)
     (λ c. let b = c .before in let g = b .before .before .before in let r = g .before .before in let k = r .before .before .before in let w = k .before .before in let f = w .before in let q = f .before in let s = q .before .before in
-    simp (← q .set-fault .ensures, le-ltb _ _ (f .if1 .left), ← w .word-at .ensures .0, ← after-key (s .args .page .now) (headSize + w .word-at .result) _ (r .list-after-key .ensures .0), le-ltb _ _ (g .if2 .left), c .set-fields .ensures, b .set-byte-4 .ensures, k .padded-32 .ensures, add-sub-cancel-left)))
+    simp (
+      ← q .set-fault .ensures,
+      le-ltb _ _ (f .if1 .left),
+      ← w .word-at .ensures .0,
+      ← after-key (s .args .page .now) (headSize + w .word-at .result) _ (r .list-after-key .ensures .0),
+      le-ltb _ _ (g .if2 .left),
+      c .set-fields .ensures,
+      b .set-byte-4 .ensures,
+      k .padded-32 .ensures,
+      add-sub-cancel-left,
+    )))

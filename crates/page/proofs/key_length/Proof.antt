@@ -1,4 +1,3 @@
-use mathlib.Core.Path.{sym}
 use borrow.Author.Needs.{needs}
 use Rattle.page.proofs.key_length.Statement.{statement}
 use Rattle.page.proofs.key_length.Tie as tie

@@ -21,6 +21,22 @@ match-fault-spec =
     simp (← ap (λ (r : SetByte4). r .scope) (b .set-byte-4 .ensures), eq-eqb _ _ (f1 .if1 .left), ← ap (λ (r : SetByte4). r .reserved) (b .set-byte-4 .ensures), eq-eqb _ _ (f2 .if2 .left), ne-eqb _ _ (c .if3 .taken)))
     (λ c κs. search needs)
     (λ c. let d = c .before in let f3 = d .before in let f2 = f3 .before .before in let f1 = f2 .before .before in let b = f1 .before .before in
-    simp (← ap (λ (r : SetByte4). r .scope) (b .set-byte-4 .ensures), eq-eqb _ _ (f1 .if1 .left), ← ap (λ (r : SetByte4). r .reserved) (b .set-byte-4 .ensures), eq-eqb _ _ (f2 .if2 .left), eq-eqb _ _ (f3 .if3 .left), ← d .is-decrypt-or-mixed .ensures, not-true (d .is-decrypt-or-mixed .result) (c .if4 .taken)))
+    simp (
+      ← ap (λ (r : SetByte4). r .scope) (b .set-byte-4 .ensures),
+      eq-eqb _ _ (f1 .if1 .left),
+      ← ap (λ (r : SetByte4). r .reserved) (b .set-byte-4 .ensures),
+      eq-eqb _ _ (f2 .if2 .left),
+      eq-eqb _ _ (f3 .if3 .left),
+      ← d .is-decrypt-or-mixed .ensures,
+      not-true (d .is-decrypt-or-mixed .result) (c .if4 .taken),
+    ))
     (λ c. let d = c .before in let f3 = d .before in let f2 = f3 .before .before in let f1 = f2 .before .before in let b = f1 .before .before in
-    simp (← ap (λ (r : SetByte4). r .scope) (b .set-byte-4 .ensures), eq-eqb _ _ (f1 .if1 .left), ← ap (λ (r : SetByte4). r .reserved) (b .set-byte-4 .ensures), eq-eqb _ _ (f2 .if2 .left), eq-eqb _ _ (f3 .if3 .left), ← d .is-decrypt-or-mixed .ensures, not-false (d .is-decrypt-or-mixed .result) (c .if4 .left))))
+    simp (
+      ← ap (λ (r : SetByte4). r .scope) (b .set-byte-4 .ensures),
+      eq-eqb _ _ (f1 .if1 .left),
+      ← ap (λ (r : SetByte4). r .reserved) (b .set-byte-4 .ensures),
+      eq-eqb _ _ (f2 .if2 .left),
+      eq-eqb _ _ (f3 .if3 .left),
+      ← d .is-decrypt-or-mixed .ensures,
+      not-false (d .is-decrypt-or-mixed .result) (c .if4 .left),
+    )))

@@ -4,25 +4,25 @@ use Prim.Native.Nat.{ℕ, _+_, _≤_}
 use native.Mathlib.Omega.{arith}
 use borrow.Author.Needs.{needs}
 use borrow.Author.Tests.{eq-eqb, ne-eqb}
-use lib.ListN.{length, take, drop, length-take, length-drop}
+use lib.ListN.{length, drop, length-take, length-drop}
 use Rattle.wire.specs.Rules.{breach, zeroRules}
 use Rattle.wire.proofs.Rules.{zeros-shift}
-use Rattle.page.specs.Fields.{headSize}
+use Rattle.page.specs.Fields.{reservedFrom, reservedSize, reservedBytes, headSize}
 use Rattle.page.specs.Rules.{plainRules}
 use Rattle.page.proofs.Parts.{first-within}
 use Rattle.page.proofs.plain_fault.Statement.{statement}
 use Rattle.page.proofs.plain_fault.Tie as tie
 
--- bytes 11 to 17 are seven
-seven : (p : List ℕ) → headSize ≤ length p → length (take 7 (drop 11 p)) ≡ 7
-seven p l = omega (arith, length-take 7 (drop 11 p), length-drop 11 p)
+-- the reserved bytes are all there
+all-there : (p : List ℕ) → headSize ≤ length p → length (reservedBytes p) ≡ reservedSize
+all-there p l = omega (arith, length-take reservedSize (drop reservedFrom p), length-drop reservedFrom p)
 
--- of which the first that is not zero is the page's
-from-byte-11 : (p : List ℕ) (r : ℕ) → headSize ≤ length p → r ≡ breach (zeroRules 0 (take 7 (drop 11 p))) (length (take 7 (drop 11 p))) → 11 + r ≡ breach (zeroRules 11 (take 7 (drop 11 p))) 18
-from-byte-11 p r l e =
-    let bytes = take 7 (drop 11 p) in
-    let at : r ≡ breach (zeroRules 0 bytes) 7 = e ∙ ap (λ (n : ℕ). breach (zeroRules 0 bytes) n) (seven p l) in
-    ap (λ (n : ℕ). 11 + n) at ∙ sym (zeros-shift 11 7 bytes)
+-- the first of them that is not zero is the page's
+first-of-page : (p : List ℕ) (r : ℕ) → headSize ≤ length p → r ≡ breach (zeroRules 0 (reservedBytes p)) (length (reservedBytes p)) → reservedFrom + r ≡ breach (zeroRules reservedFrom (reservedBytes p)) 18
+first-of-page p r l e =
+    let bytes = reservedBytes p in
+    let at : r ≡ breach (zeroRules 0 bytes) reservedSize = e ∙ ap (λ (n : ℕ). breach (zeroRules 0 bytes) n) (all-there p l) in
+    ap (λ (n : ℕ). reservedFrom + n) at ∙ sym (zeros-shift reservedFrom reservedSize bytes)
 
 pub plain-fault-spec : {M : Type 1} → statement M
 unfolding plainRules
@@ -40,9 +40,9 @@ plain-fault-spec =
     (λ c. search needs)
     (λ c κs. search needs)
     (λ c. let s = c .before .before .before .before .before .before .before .before .before in
-    let bytes = take 7 (drop 11 (s .args .page .now)) in
+    let bytes = reservedBytes (s .args .page .now) in
     let r : c .first-not-zero .result ≤ length bytes = rw (c .first-not-zero .ensures) (first-within bytes) in
-    omega (arith, length-take 7 (drop 11 (s .args .page .now))))
+    omega (arith, length-take reservedSize (drop reservedFrom (s .args .page .now))))
     (λ c. let f3 = c .before .before in let f2 = f3 .before .before in let f1 = f2 .before .before in let s = f1 .before .before .before in
     simp (eq-eqb _ _ (f1 .if1 .left), eq-eqb _ _ (f2 .if2 .left), eq-eqb _ _ (f3 .if3 .left))
-    (from-byte-11 (s .args .page .now) (c .first-not-zero .result) (s .pre) (c .first-not-zero .ensures))))
+    (first-of-page (s .args .page .now) (c .first-not-zero .result) (s .pre) (c .first-not-zero .ensures))))

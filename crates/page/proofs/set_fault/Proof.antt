@@ -30,4 +30,5 @@ set-fault-spec =
     (λ c κs. search needs)
     (λ c κs. search needs)
     (λ c. let k = c .before in let g = k .before .before .before in let q = g .before in let f = q .before in let m = f .before in let p = m .before .before .args .page .now in
-    c .key-fault .ensures ∙ ap (λ (n : ℕ). breach (keyRules p n) (length p)) (k .key-length .ensures) ∙ sym (others-decide (modeRules p) (keys p) p (length p) (m .mode-fault .result) (q .plain-fault .result) (mode-under p) (m .mode-fault .ensures) (f .if1 .left) (q .plain-fault .ensures) (g .if2 .left))))
+    c .key-fault .ensures ∙ ap (λ (n : ℕ). breach (keyRules p n) (length p)) (k .key-length .ensures)
+    ∙ sym (others-decide (modeRules p) (keys p) p (length p) (m .mode-fault .result) (q .plain-fault .result) (mode-under p) (m .mode-fault .ensures) (f .if1 .left) (q .plain-fault .ensures) (g .if2 .left))))

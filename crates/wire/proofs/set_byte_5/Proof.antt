@@ -7,4 +7,4 @@ pub set-byte-5-spec : {M : Type 1} → statement M
 set-byte-5-spec =
     tie.close
     (tie.spec
-    (λ c. let b = c .args .b in simp (and-mask (b / 16) 2, and-mask (b / 8) 1, and-mask (b / 4) 1, and-mask (b / 2) 1, and-mask b 1)))
+    (λ c. let b = c .args .b in simp (and-mask (b / 64) 2, and-mask (b / 16) 2, and-mask (b / 8) 1, and-mask (b / 4) 1, and-mask (b / 2) 1, and-mask b 1)))

@@ -1,0 +1,314 @@
+-- The faulty byte of answer 8 is the lowest byte at which a rule of the page breaks.
+-- Assumes nothing.
+use mathlib.Core.Path.{_≡_, refl, sym, ap, _∙_}
+use mathlib.Core.Bool.{true, false}
+use mathlib.Core.Logic.{_⊎_, inl, inr, ⊎-elim}
+use mathlib.Core.List.{List, [], _∷_, _++_}
+use Prim.Native.Nat.{ℕ, zero, suc, _+_, _<_, _≤_}
+use native.Mathlib.Nat.{le-refl, add-zero}
+use native.Mathlib.Omega.{arith}
+use borrow.Author.Tests.{ltb-true, ltb-false, leb-true, le-leb}
+use lib.Dec.{ltb, leb}
+use lib.ListN.{length, drop, length-drop}
+use Rattle.arrays.specs.Base.{pick}
+use Rattle.arrays.proofs.Base.{cases, clash}
+use Rattle.wire.specs.Rules.{lengthWrong, Rule, rule, breach}
+use Rattle.wire.proofs.Rules.{AllHold, Under, kept, none, low, high, Sorted, BreaksAt, lowest, breaks, sorted-from, sorted-append, hold-append, under-append, under-more, zeros-sorted}
+use Rattle.answer.specs.Answers.{numberOf}
+use Rattle.answer.specs.declared.Answer.{Answer}
+use Rattle.answer.specs.declared.Answer.the-variants.{Done, PageLengthWrong, FieldWrong, FifthSupplementalKey}
+use Rattle.kad.specs.Kad.{noKads, withData}
+use Rattle.kad.specs.Reading.{headSize as descriptorHead, dataOf, nextOf, descriptorRules, listed}
+use Rattle.kad.specs.declared.Kads.{Kads}
+use Rattle.kad.specs.declared.Seen.{Seen}
+use Rattle.kad.specs.declared.Seen.the-variants.{Nothing, Last}
+use Rattle.kad.proofs.Reading.{rules-hold, room, fault-lt}
+use Rattle.kad.proofs.Lowest.{shifted, listRules, list-sorted, first-fault}
+use Rattle.page.specs.Fields.{isPublic, sdkOf, reservedFrom, reservedBytes, headSize, keySize, encryptionOf, decryptionOf, keyEnd, encrypts, listOf, listedOf}
+use Rattle.page.specs.Rules.{openRules, modeRules, plainRules, keyLength, keyRules, setRules, matchRules, endRules, supplementalRules}
+use Rattle.page.specs.Check.{refused, supplementalMost, publicPage, supplementalPage, setPage, checked}
+use Rattle.page.specs.declared.Checked.{Checked}
+use Rattle.page.proofs.Parts.{open-under, mode-under, match-under, plain-under, key-under, least-there, set-hold, supplemental-hold, key-fits}
+
+-- ---- all rules of a page
+
+-- the rules of what stands after the key: with ENCRYPT those of the descriptors; "Without ENCRYPT the list is empty"
+unfoldable pub afterRules : List ℕ → List Rule
+afterRules p =
+    let rest = drop (keyEnd p) p in
+    pick (encrypts (encryptionOf p)) (listRules (length rest) (keyEnd p) rest Nothing) (rule (keyEnd p) (leb (length p) (keyEnd p)) ∷ [])
+
+-- the rules past the page code and the scope, where the nexus's scope and its set's decryption mode are given
+unfoldable pub innerRules : List ℕ → ℕ → ℕ → List Rule
+innerRules p scope mode = pick (isPublic p) [] (pick (sdkOf p) (supplementalRules p scope mode) (setRules p ++ afterRules p))
+
+-- all rules of a page
+abbrev pub pageRules : List ℕ → ℕ → ℕ → List Rule
+pageRules p scope mode = openRules p ++ innerRules p scope mode
+
+-- ---- they stand in the order of their bytes
+
+-- those of bytes 8 to 17
+plain-sorted : (p : List ℕ) → Sorted 8 (plainRules p)
+unfolding plainRules
+plain-sorted p = (omega arith, (omega arith, (omega arith, zeros-sorted 10 reservedFrom (reservedBytes p) (omega arith))))
+
+-- those of the key
+key-sorted : (p : List ℕ) (wanted : ℕ) → Sorted 18 (keyRules p wanted)
+unfolding keyRules
+key-sorted p wanted = omega arith
+
+-- those of bytes 4 to 7, then of bytes 8 to 17, then others
+parts-sorted : (xs ys : List Rule) (p : List ℕ) → Sorted 4 xs → Under 8 xs → Sorted 18 ys → Sorted 4 (xs ++ (plainRules p ++ ys))
+parts-sorted xs ys p s u t =
+    sorted-append xs (plainRules p ++ ys) 4 8 s u (omega arith) (sorted-append (plainRules p) ys 8 18 (plain-sorted p) (plain-under p) (omega arith) t)
+
+-- with SDK 1
+supplemental-sorted : (p : List ℕ) (scope mode : ℕ) → Sorted 4 (supplementalRules p scope mode)
+unfolding supplementalRules matchRules endRules
+supplemental-sorted p scope mode =
+    parts-sorted (matchRules p scope mode) (keyRules p keySize ++ endRules p) p (omega arith) (match-under p scope mode)
+    (sorted-append (keyRules p keySize) (endRules p) 18 19 (key-sorted p keySize) (key-under p keySize 19 (omega arith)) (omega arith) (omega arith))
+
+-- with SDK 0 up to the key's end
+set-sorted : (p : List ℕ) → Sorted 4 (setRules p)
+unfolding setRules modeRules
+set-sorted p = parts-sorted (modeRules p) (keyRules p (keyLength (encryptionOf p) (decryptionOf p))) p (omega arith) (mode-under p) (key-sorted p _)
+
+-- which point below any byte after it
+set-under : (p : List ℕ) (m : ℕ) → 19 ≤ m → Under m (setRules p)
+unfolding setRules
+set-under p m l =
+    let keys = keyRules p (keyLength (encryptionOf p) (decryptionOf p)) in
+    under-append (modeRules p) (plainRules p ++ keys) m (under-more (modeRules p) 8 m (omega arith) (mode-under p))
+    (under-append (plainRules p) keys m (under-more (plainRules p) 18 m (omega arith) (plain-under p)) (key-under p _ m l))
+
+-- after the key
+after-sorted : (p : List ℕ) → Sorted 20 (afterRules p)
+unfolding afterRules
+after-sorted p =
+    let rest = drop (keyEnd p) p in
+    let rules = listRules (length rest) (keyEnd p) rest Nothing in
+    cases (encrypts (encryptionOf p)) (λ t. rw t (sorted-from rules 20 (keyEnd p) (omega arith) (list-sorted (length rest) (keyEnd p) rest Nothing)))
+    (λ t. rw t (omega arith, tt))
+
+-- past the page code and the scope
+inner-sorted : (p : List ℕ) (scope mode : ℕ) → Sorted 4 (innerRules p scope mode)
+unfolding innerRules
+inner-sorted p scope mode =
+    cases (isPublic p) (λ t. rw t tt)
+    (λ t. cases (sdkOf p) (λ u. rw (t, u) (supplemental-sorted p scope mode))
+    (λ u. rw (t, u) (sorted-append (setRules p) (afterRules p) 4 20 (set-sorted p) (set-under p 20 (omega arith)) (omega arith) (after-sorted p))))
+
+-- after them, others from byte 4 on
+open-sorted : (p : List ℕ) (ys : List Rule) → Sorted 4 ys → Sorted 0 (openRules p ++ ys)
+unfolding openRules
+open-sorted p ys s = (omega arith, (omega arith, s))
+
+-- all of them
+pub page-sorted : (p : List ℕ) (scope mode : ℕ) → Sorted 0 (pageRules p scope mode)
+page-sorted p scope mode = open-sorted p (innerRules p scope mode) (inner-sorted p scope mode)
+
+-- ---- the lowest byte
+
+-- a rule breaks at byte i, and none at a lower byte
+pub record Lowest (i : ℕ) (rules : List Rule) : Type 0 where
+  pub broken : BreaksAt i rules
+  pub least : (j : ℕ) → BreaksAt j rules → i ≤ j
+
+-- the first breach of rules in order, where it lies before the end
+lowest-of : (rules : List Rule) (top i : ℕ) → Sorted 0 rules → i ≡ breach rules top → i < top → Lowest i rules
+lowest-of rules top i s e l = record {
+  broken = rw e (⊎-elim (λ t. absurd (omega arith)) (λ b. b) (breaks rules top));
+  least = λ j b. rw e (lowest rules top 0 j s b);
+}
+
+-- rules that hold break at no byte
+pub hold-none : (rules : List Rule) (i : ℕ) → AllHold rules → BreaksAt i rules → ⊥
+hold-none [] i h b = b
+hold-none (r ∷ rules) i h b = ⊎-elim (λ x. clash (h .0) (x .1)) (λ x. hold-none rules i (h .1) x) b
+
+-- ---- the descriptors, or none
+
+-- rules that hold do so wherever they point
+shifted-hold : (i : ℕ) (rules : List Rule) → AllHold rules → AllHold (shifted i rules)
+shifted-hold i [] h = tt
+shifted-hold i (r ∷ rules) h = (h .0, shifted-hold i rules (h .1))
+
+-- where all bytes of a list of descriptors are good, every rule holds
+list-hold : (n i : ℕ) (s : List ℕ) (seen : Seen) (k : Kads) → length s ≤ n → length s ≤ listed n s seen k .good → AllHold (listRules n i s seen)
+unfolding listed listRules
+list-hold zero i s seen k h e = tt
+list-hold (suc n) i [] seen k h e = tt
+list-hold (suc n) i (b ∷ s) seen k h e =
+    let l = b ∷ s in
+    let next = nextOf l in
+    let rest = drop next l in
+    let rules = descriptorRules l seen in
+    let fault = breach rules descriptorHead in
+    cases (ltb fault descriptorHead)
+    (λ t. let ends : length l ≤ fault = rw t at e in absurd (omega (arith, fault-lt l seen (omega arith) (ltb-true _ _ t))))
+    (λ t.
+    let past : descriptorHead ≤ fault = ltb-false fault descriptorHead t in
+    let fits = room l seen past .0 in
+    let more = withData k b (dataOf l) in
+    let size = length-drop next l in
+    let ends : length l ≤ next + listed n rest (Last b) more .good = rw t at e in
+    hold-append (shifted i rules) (listRules n (i + next) rest (Last b)) (shifted-hold i rules (rules-hold l seen past)) (list-hold n (i + next) rest (Last b) more (omega arith) (omega arith)))
+
+-- the first fault after the key is where the first rule breaks
+after-fault : (p : List ℕ) → keyEnd p ≤ length p → keyEnd p + listedOf p .good ≡ breach (afterRules p) (length p)
+unfolding afterRules listOf
+after-fault p l =
+    let rest = drop (keyEnd p) p in
+    let ends : keyEnd p + length rest ≡ length p = omega (arith, length-drop (keyEnd p) p) in
+    cases (encrypts (encryptionOf p)) (λ t. rw (t, ← ends) (first-fault (length rest) (keyEnd p) rest Nothing noKads (le-refl (length rest))))
+    (λ t. rw t (cases (leb (length p) (keyEnd p)) (λ u. rw u (omega (arith, leb-true (length p) (keyEnd p) u))) (λ u. rw u (add-zero (keyEnd p)))))
+
+-- and where it lies at the page's end, every rule holds
+after-hold : (p : List ℕ) → keyEnd p ≤ length p → length p ≤ keyEnd p + listedOf p .good → AllHold (afterRules p)
+unfolding afterRules listOf
+after-hold p l h =
+    let rest = drop (keyEnd p) p in
+    let size = length-drop (keyEnd p) p in
+    cases (encrypts (encryptionOf p))
+    (λ t. rw t (let all : length p ≤ keyEnd p + listed (length rest) rest Nothing noKads .good = rw t at h in list-hold (length rest) (keyEnd p) rest Nothing noKads (le-refl (length rest)) (omega arith)))
+    (λ t. rw t (let all : length p ≤ keyEnd p + 0 = rw t at h in (le-leb (length p) (keyEnd p) (omega arith), tt)))
+
+-- ---- the parts held together
+
+-- with SDK 0
+set-all : (p : List ℕ) → AllHold (modeRules p) × (AllHold (plainRules p) × AllHold (keyRules p (keyLength (encryptionOf p) (decryptionOf p)))) → AllHold (setRules p)
+unfolding setRules
+set-all p h =
+    let keys = keyRules p (keyLength (encryptionOf p) (decryptionOf p)) in
+    hold-append (modeRules p) (plainRules p ++ keys) (h .0) (hold-append (plainRules p) keys (h .1 .0) (h .1 .1))
+
+-- with SDK 1
+supplemental-all : (p : List ℕ) (scope mode : ℕ) → AllHold (matchRules p scope mode) × (AllHold (plainRules p) × (AllHold (keyRules p keySize) × AllHold (endRules p))) → AllHold (supplementalRules p scope mode)
+unfolding supplementalRules
+supplemental-all p scope mode h =
+    let last = keyRules p keySize ++ endRules p in
+    hold-append (matchRules p scope mode) (plainRules p ++ last) (h .0)
+    (hold-append (plainRules p) last (h .1 .0) (hold-append (keyRules p keySize) (endRules p) (h .1 .1 .0) (h .1 .1 .1)))
+
+-- ---- the whole check
+
+-- answer 8, with the lowest byte at which a rule breaks
+pub record Wrong (rules : List Rule) (c : Checked) : Type 0 where
+  pub told : c .answer ≡ FieldWrong
+  pub fault : Lowest (c .fault) rules
+
+-- every rule holds, and the page is done or brings a fifth supplemental key
+pub record Right (rules : List Rule) (c : Checked) : Type 0 where
+  pub told : (c .answer ≡ Done) ⊎ (c .answer ≡ FifthSupplementalKey)
+  pub holds : AllHold rules
+
+-- the one or the other
+abbrev pub Verdict : List Rule → Checked → Type 0
+Verdict rules c = Wrong rules c ⊎ Right rules c
+
+module _ (p : List ℕ) (ys : List Rule) (sorted : Sorted 4 ys) (opens : AllHold (openRules p)) where
+  -- where the page code and the scope are right, a breach of the others before the page's end is the lowest
+  others-wrong : (i : ℕ) → i ≡ breach ys (length p) → i < length p → Verdict (openRules p ++ ys) (refused FieldWrong i)
+  others-wrong i e l =
+      let first = high (openRules p) ys (length p) 5 5 (open-under p) (sym (none (openRules p) 5 opens)) (le-refl 5) in
+      inl (record { told = refl; fault = lowest-of (openRules p ++ ys) (length p) i (open-sorted p ys sorted) (e ∙ sym first) l })
+
+  -- and where the others hold, the page is done
+  others-right : (c : Checked) → (c .answer ≡ Done) ⊎ (c .answer ≡ FifthSupplementalKey) → AllHold ys → Verdict (openRules p ++ ys) c
+  others-right c t h = inr (record { told = t; holds = hold-append (openRules p) ys opens h })
+
+module _ (p : List ℕ) (long : headSize ≤ length p) (opens : AllHold (openRules p)) where
+  -- a page with SDK 1
+  supplemental-verdict : (scope mode count : ℕ) → Verdict (openRules p ++ supplementalRules p scope mode) (supplementalPage p scope mode count)
+  unfolding supplementalPage
+  supplemental-verdict scope mode count =
+      let rules = supplementalRules p scope mode in
+      let fault = breach rules (length p) in
+      let sorted = supplemental-sorted p scope mode in
+      cases (ltb fault (length p)) (λ t. rw t (others-wrong p rules sorted opens fault refl (ltb-true fault (length p) t)))
+      (λ t.
+      let all = supplemental-all p scope mode (supplemental-hold p scope mode long (ltb-false fault (length p) t)) in
+      cases (leb supplementalMost count) (λ u. rw (t, u) (others-right p rules sorted opens (refused FifthSupplementalKey 0) (inr refl) all))
+      (λ u. rw (t, u) (others-right p rules sorted opens _ (inl refl) all)))
+
+  -- a page with SDK 0
+  set-verdict : Verdict (openRules p ++ (setRules p ++ afterRules p)) (setPage p)
+  unfolding setPage
+  set-verdict =
+      let n = length p in
+      let rules = setRules p ++ afterRules p in
+      let fault = breach (setRules p) n in
+      let end = keyEnd p + listedOf p .good in
+      let under = set-under p n (omega arith) in
+      let sorted = sorted-append (setRules p) (afterRules p) 4 20 (set-sorted p) (set-under p 20 (omega arith)) (omega arith) (after-sorted p) in
+      cases (ltb fault n)
+      (λ t.
+      let lt = ltb-true fault n t in
+      rw t (others-wrong p rules sorted opens fault (sym (low (setRules p) (afterRules p) n n fault refl lt)) lt))
+      (λ t.
+      let le = ltb-false fault n t in
+      let held = set-hold p long le in
+      let fits = key-fits p _ (held .1 .1) .1 in
+      cases (ltb end n)
+      (λ u. rw (t, u) (others-wrong p rules sorted opens end (after-fault p fits ∙ sym (high (setRules p) (afterRules p) n n fault under refl le)) (ltb-true end n u)))
+      (λ u. rw (t, u) (others-right p rules sorted opens _ (inl refl) (hold-append (setRules p) (afterRules p) (set-all p held) (after-hold p fits (ltb-false end n u))))))
+
+-- A page whose length isn't wrong is answered 8 with the lowest byte at which a rule breaks, or every rule holds and it is done or a fifth supplemental key.
+pub page-verdict : (p : List ℕ) (scope mode count : ℕ) → lengthWrong headSize p ≡ false → Verdict (pageRules p scope mode) (checked p scope mode count)
+unfolding checked innerRules publicPage
+page-verdict p scope mode count e =
+    let long = least-there headSize p e in
+    let n = length p in
+    let fault = breach (openRules p) n in
+    let under = under-more (openRules p) 5 n (omega arith) (open-under p) in
+    cases (ltb fault n)
+    (λ t.
+    let lt = ltb-true fault n t in
+    rw (e, t) (inl (record { told = refl; fault = lowest-of (pageRules p scope mode) n fault (page-sorted p scope mode) (sym (low (openRules p) (innerRules p scope mode) n n fault refl lt)) lt })))
+    (λ t.
+    let opens = kept (openRules p) n n under (ltb-false fault n t) in
+    cases (isPublic p) (λ u. rw (e, t, u) (others-right p [] tt opens _ (inl refl) tt))
+    (λ u. cases (sdkOf p) (λ v. rw (e, t, u, v) (supplemental-verdict p long opens scope mode count)) (λ v. rw (e, t, u, v) (set-verdict p long opens))))
+
+-- a page whose length is wrong is answered 7
+pub length-verdict : (p : List ℕ) (scope mode count : ℕ) → lengthWrong headSize p ≡ true → checked p scope mode count ≡ refused PageLengthWrong 0
+unfolding checked
+length-verdict p scope mode count e = rw e refl
+
+-- answers with different numbers differ
+differ : {C : Type 0} {a : Answer} (x y : Answer) → (numberOf x ≡ numberOf y → ⊥) → a ≡ x → a ≡ y → C
+differ x y n d e = absurd (n (ap numberOf (sym d ∙ e)))
+
+module _ (p : List ℕ) (scope mode count : ℕ) where
+  -- the outcome
+  abbrev c : Checked
+  c = checked p scope mode count
+
+  -- the page's rules
+  abbrev rules : List Rule
+  rules = pageRules p scope mode
+
+  -- what follows from an answer that isn't 7
+  not-seven : {C : Type 0} (a : Answer) → (numberOf a ≡ 7 → ⊥) → c .answer ≡ a → (Verdict rules c → C) → C
+  not-seven a n e f =
+      cases (lengthWrong headSize p) (λ t. differ PageLengthWrong a (λ z. n (sym z)) (ap (λ (x : Checked). x .answer) (length-verdict p scope mode count t)) e) (λ t. f (page-verdict p scope mode count t))
+
+  -- Where the answer is 8, a rule of the page breaks at the faulty byte, and none at a lower byte.
+  pub wrong-is-lowest : c .answer ≡ FieldWrong → Lowest (c .fault) rules
+  wrong-is-lowest e =
+      not-seven FieldWrong (λ z. omega arith) e
+      (λ v. ⊎-elim (λ w. w .fault) (λ r. ⊎-elim (λ d. differ Done FieldWrong (λ z. omega arith) d e) (λ d. differ FifthSupplementalKey FieldWrong (λ z. omega arith) d e) (r .told)) v)
+
+  -- where it is an answer that isn't 7 or 8, every rule holds
+  holds-of : (a : Answer) → (numberOf a ≡ 7 → ⊥) → (numberOf a ≡ 8 → ⊥) → c .answer ≡ a → AllHold rules
+  holds-of a n m e = not-seven a n e (λ v. ⊎-elim (λ w. differ FieldWrong a (λ z. m (sym z)) (w .told) e) (λ r. r .holds) v)
+
+  -- Where the page is done, no rule breaks,
+  pub done-breaks-none : c .answer ≡ Done → (i : ℕ) → BreaksAt i rules → ⊥
+  done-breaks-none e i b = hold-none rules i (holds-of Done (λ z. omega arith) (λ z. omega arith) e) b
+
+  -- nor where it brings a fifth supplemental key.
+  pub fifth-breaks-none : c .answer ≡ FifthSupplementalKey → (i : ℕ) → BreaksAt i rules → ⊥
+  fifth-breaks-none e i b = hold-none rules i (holds-of FifthSupplementalKey (λ z. omega arith) (λ z. omega arith) e) b
