@@ -1,2 +1,5 @@
 pub mod Writing
 pub mod Reading
+pub mod RoundTrip
+pub mod Worked
+pub mod Settled

@@ -1,9 +1,9 @@
 -- Document 01: "The status reader asks for 24 bytes at least and an exact length, else 7; then page code 0020h, fixed zeros zero,
 -- codes in range and descriptors formed as above (under any mode), else 8. It takes index 0 or 1 and any mixture of modes."
-use Prim.Native.Nat.{ℕ, _+_, _-_}
-use mathlib.Core.Bool.{Bool, false, not, _&&_, _||_}
+use Prim.Native.Nat.{ℕ}
+use mathlib.Core.Bool.{Bool, false, _&&_}
 use mathlib.Core.List.{List}
-use lib.Dec.{ltb, leb, eqb}
+use lib.Dec.{leb, eqb}
 use lib.ListN.{length, take, drop}
 use Rattle.arrays.specs.Base.{pick}
 use Rattle.wire.specs.Numbers.{byteAt, wordAt, numberAt}

@@ -1,9 +1,12 @@
 -- Document 01, "Response pages", 0020h: the status page's bytes from its values, and the values of a nexus.
-use Prim.Native.Nat.{ℕ}
+use Prim.Native.Nat.{ℕ, _^_, _<_, _≤_}
+use mathlib.Core.Path.{_≡_}
+use mathlib.Core.Bool.{true}
 use mathlib.Core.List.{List, _∷_, _++_}
 use lib.ListN.{replicate}
 use Rattle.wire.specs.Numbers.{four}
 use Rattle.wire.specs.Fields.{joined4, joined12}
+use Rattle.kad.specs.Kad.{lengthsGood, tailsGood, Sized}
 use Rattle.kad.specs.Writing.{descriptors}
 use Rattle.device.specs.Record.{State, nexusAt}
 use Rattle.device.specs.Selecting.{selectedSet}
@@ -38,3 +41,20 @@ statusWith scope set = record {
 
 abbrev pub statusOf : State → ℕ → Status
 statusOf s n = statusWith (nexusAt s n .scope) (selectedSet s n)
+
+-- "codes in range": what the reader asks of the values, and what each field of a page has room for
+pub record CodesInRange (s : Status) : Type 0 where
+  pub nexusScope : s .nexusScope ≤ 2
+  pub setScope : s .setScope ≤ 2
+  pub encryption : s .encryption ≤ 2
+  pub decryption : s .decryption ≤ 3
+  pub index : s .index ≤ 1
+  pub ceems : s .ceems ≤ 3
+  pub lengths : lengthsGood (s .kads) ≡ true
+
+-- values that a page tells whole: an instance number of 32 bits, and zeros past each length, in arrays of their sizes
+pub record InRange (s : Status) : Type 0 where
+  pub codes : CodesInRange s
+  pub number : s .number < 2 ^ 32
+  pub tails : tailsGood (s .kads) ≡ true
+  pub sized : Sized (s .kads)

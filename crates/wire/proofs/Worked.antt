@@ -2,11 +2,12 @@
 use Prim.Native.Nat.{ℕ}
 use mathlib.Core.Path.{_≡_, refl}
 use mathlib.Core.Bool.{true, false}
-use mathlib.Core.List.{List, [], _∷_}
+use mathlib.Core.List.{List, [], _∷_, _++_}
+use lib.ListN.{replicate}
 use Rattle.wire.specs.Numbers.{byteAt, wordAt, numberAt, two, four}
 use Rattle.wire.specs.Fields.{setByte4, setByte5, statusByte4, joined4, statusByte12, joined12}
 use Rattle.wire.specs.Buffers.{shown, padded, allZero}
-use Rattle.wire.specs.Rules.{breach, zeroRules}
+use Rattle.wire.specs.Rules.{lengthWrong, breach, zeroRules}
 
 -- page K's bytes 0 to 5, "length 0030h, byte 4 21h, byte 5 44h"
 abbrev k : List ℕ
@@ -17,6 +18,13 @@ k-code = refl
 
 k-length : wordAt k 2 ≡ 48
 k-length = refl
+
+-- P3: page K has 52 bytes; cut to 51 its length is wrong
+k-whole : lengthWrong 20 (k ++ replicate 46 0) ≡ false
+k-whole = refl
+
+k-cut : lengthWrong 20 (k ++ replicate 45 0) ≡ true
+k-cut = refl
 
 -- SCOPE 1, locked
 k-byte-4 : setByte4 (byteAt k 4) ≡ record { scope = 1; reserved = 0; lock = true }

@@ -1,17 +1,17 @@
 use borrow.Author.Needs.{needs}
-use mathlib.Core.Path.{_≡_, sym, ap, _∙_}
+use mathlib.Core.Path.{_≡_, refl, sym, ap, _∙_}
 use mathlib.Core.Bool.{true, false}
 use mathlib.Core.List.{List}
 use Prim.Native.Nat.{ℕ, _≤_}
-use borrow.Author.Tests.{not-true, not-false}
+use borrow.Author.Tests.{eq-eqb, ne-eqb, not-true, not-false}
 use denote.Ref.{now}
 use lib.ListN.{length}
 use Rattle.wire.specs.Rules.{lengthWrong}
 use Rattle.answer.specs.declared.Answer.the-variants.{Done}
-use Rattle.status.specs.Reading.{headSize, headGood}
+use Rattle.kad.specs.declared.Listed.{Listed}
+use Rattle.status.specs.Reading.{headSize, headGood, valuesWith}
 use Rattle.status.specs.declared.Status.{Status}
-use Rattle.status.specs.declared.StatusRead.{StatusRead}
-use Rattle.status.proofs.Reading.{refused-length, long, refused-head, refused-list, accepted}
+use Rattle.status.proofs.Reading.{refused-length, long, refused-field, accepted, list-read}
 use Rattle.status.proofs.read_status.Statement.{statement}
 use Rattle.status.proofs.read_status.Tie as tie
 
@@ -42,7 +42,8 @@ read-status-spec =
     (λ c κs. search needs)
     (λ c.
     let at-length = c .before .before .before in
-    c .refuse2 .ensures ∙ sym (refused-head (page at-length) (right at-length) (sym (c .before .before .head-good .ensures) ∙ not-true _ (c .before .if2 .taken))))
+    let wrong : headGood (page at-length) ≡ false = sym (c .before .before .head-good .ensures) ∙ not-true _ (c .before .if2 .taken) in
+    c .refuse2 .ensures ∙ sym (refused-field (page at-length) (right at-length) (rw wrong refl)))
     (λ c. has-head (c .before .before))
     (λ c. has-head (c .before .before))
     (λ c. search needs)
@@ -52,10 +53,12 @@ read-status-spec =
     (λ c.
     let at-head = c .before .before .before .before .before in
     let at-length = at-head .before .before in
-    c .refuse3 .ensures ∙ sym (refused-list (page at-length) (right at-length) (good-head at-head) (c .before .before .before .read .ensures .0) (c .before .if3 .taken)))
+    let rest = list-read (page at-length) (c .before .before .before .read .ensures .0) in
+    c .refuse3 .ensures ∙ sym (refused-field (page at-length) (right at-length) (rw (good-head at-head, rest .1) (ne-eqb _ _ (c .before .if3 .taken)))))
     (λ c κs. has-head (c .before .before .before .before .before .before .before))
     (λ c.
     let at-head = c .before .before .before .before .before .before in
     let at-length = at-head .before .before in
-    ap (λ (s : Status). record { answer = Done; status = s }) (c .values-with .ensures)
-    ∙ sym (accepted (page at-length) (right at-length) (good-head at-head) (c .before .before .before .before .read .ensures .0) (c .before .before .if3 .left))))
+    let rest = list-read (page at-length) (c .before .before .before .before .read .ensures .0) in
+    ap (λ (s : Status). record { answer = Done; status = s }) (c .values-with .ensures ∙ ap (λ (r : Listed). valuesWith (page at-length) (r .kads)) (rest .0))
+    ∙ sym (accepted (page at-length) (right at-length) (rw (good-head at-head, rest .1) (eq-eqb _ _ (c .before .before .if3 .left))))))

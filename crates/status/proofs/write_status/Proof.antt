@@ -1,5 +1,5 @@
 use borrow.Author.Needs.{needs}
-use mathlib.Core.Path.{sym, ap}
+use mathlib.Core.Path.{_≡_, sym, ap}
 use native.Mathlib.Omega.{arith}
 use denote.Ref.{now}
 use lib.ListN.{length}
@@ -7,6 +7,7 @@ use lib.Seq.{length-take-le}
 use Rattle.wire.proofs.Stores.{length-padded}
 use Rattle.kad.specs.Writing.{descriptors, listMost}
 use Rattle.kad.specs.declared.Written.{Written}
+use Rattle.status.specs.Status.{statusBytes}
 use Rattle.status.proofs.Writing.{stored}
 use Rattle.status.proofs.write_status.Statement.{statement}
 use Rattle.status.proofs.write_status.Tie as tie
@@ -17,6 +18,7 @@ prefix c =
     omega (arith, w .ensures .1, ap (λ (x : Written). length (x .bytes)) (w .ensures .0), length-padded listMost (descriptors (c .before .before .before .before .before .before .before .before .before .before .before .args .s .kads)))
 
 pub write-status-spec : {M : Type 1} → statement M
+unfolding statusBytes
 write-status-spec =
     tie.close
     (tie.spec
@@ -36,4 +38,6 @@ write-status-spec =
     let head = first .before .before .before in
     let list = head .before .before in
     let start = list .before .before .before in
-    stored (start .args .s) (now (start .args .buffer)) (list .write .ensures .0) (list .write .ensures .1) (head .status-head .ensures) (first .put .ensures) (c .before .before .put2 .ensures)))
+    let made = list .write .ensures in
+    let size : list .write .result .length ≡ length (descriptors (start .args .s .kads)) = ap (λ (x : Written). x .length) (made .0) in
+    stored (start .args .s) (now (start .args .buffer)) (made .0) (made .1) (head .status-head .ensures) (omega (arith, made .1)) (omega (arith, made .1)) (first .put .ensures) (c .before .before .put2 .ensures)))

@@ -1,0 +1,177 @@
+-- Pages of document 01, written and read.
+use Prim.Native.Nat.{ℕ, zero, suc}
+use mathlib.Core.Path.{_≡_, refl}
+use mathlib.Core.Bool.{true, false}
+use mathlib.Core.List.{List, [], _∷_, _++_, map}
+use lib.ListN.{getD, take, set, replicate}
+use Rattle.wire.specs.Numbers.{two}
+use Rattle.answer.specs.declared.Answer.{Answer}
+use Rattle.answer.specs.declared.Answer.the-variants.{Done, PageLengthWrong, FieldWrong}
+use Rattle.kad.specs.Kad.{kadsOf, noKads}
+use Rattle.kad.specs.Reading.{descriptorRules, listed}
+use Rattle.kad.specs.Writing.{descriptors}
+use Rattle.kad.specs.declared.Kads.{Kads}
+use Rattle.page.specs.Fields.{keySize}
+use Rattle.page.specs.declared.Fields.{Fields}
+use Rattle.device.specs.Record.{State, nexusCount, placeCount, localScope, established, emptySet, noMarks, newNexus, powerOn}
+use Rattle.device.specs.Selecting.{ownedPlace, selected}
+use Rattle.device.specs.declared.Nexus.{Nexus}
+use Rattle.status.specs.Pages.{pageOf, supportedIn, supportedOut, capabilities}
+use Rattle.status.specs.Status.{statusBytes, statusOf}
+use Rattle.status.specs.Reading.{headGood, refused, noStatus, readStatus}
+use Rattle.status.specs.declared.Status.{Status}
+
+-- ---- the pages that never change
+
+-- the response pages that there are, by their codes
+supported-in : supportedIn ≡ pageOf 0x0000 (two 0x0000 ++ two 0x0001 ++ two 0x0012 ++ two 0x0020)
+supported-in = refl
+
+-- the one page that is set
+supported-out : supportedOut ≡ pageOf 0x0001 (two 0x0010)
+supported-out = refl
+
+-- "00 12 00 0C 01 07 00 07, then 8 zeros"
+capabilities-bytes : capabilities
+    ≡ 0x00 ∷ 0x12 ∷ 0x00 ∷ 0x0C ∷ 0x01 ∷ 0x07 ∷ 0x00 ∷ 0x07 ∷ 0x00 ∷ 0x00 ∷ 0x00 ∷ 0x00 ∷ 0x00 ∷ 0x00 ∷ 0x00 ∷ 0x00 ∷ []
+capabilities-bytes = refl
+
+-- ---- P1
+
+-- "00 20 00 14, then 20 zeros"
+abbrev p1 : List ℕ
+p1 = 0x00 ∷ 0x20 ∷ 0x00 ∷ 0x14 ∷ replicate 20 0
+
+-- as power-on leaves it, each nexus is new, past the last one too
+new : (count n : ℕ) → getD (replicate count newNexus) n newNexus ≡ newNexus
+new zero n = refl
+new (suc count) zero = refl
+new (suc count) (suc n) = new count n
+
+-- "status after power-on", of any nexus
+pub p1-written : (n : ℕ) → statusBytes (statusOf (powerOn nexusCount placeCount) n) ≡ p1
+unfolding statusBytes descriptors powerOn selected
+p1-written n = rw (new nexusCount n) refl
+
+pub p1-read : readStatus p1 ≡ record { answer = Done; status = noStatus }
+unfolding readStatus headGood listed
+p1-read = refl
+
+-- ---- P2
+
+-- "00 20 00 14 21 02 02 01 00 00 00 01 02, then 11 zeros"
+abbrev p2 : List ℕ
+p2 = 0x00 ∷ 0x20 ∷ 0x00 ∷ 0x14 ∷ 0x21 ∷ 0x02 ∷ 0x02 ∷ 0x01 ∷ 0x00 ∷ 0x00 ∷ 0x00 ∷ 0x01 ∷ 0x02 ∷ replicate 11 0
+
+-- what page K sets: modes 2 and 2, index 1, CEEM 1, CKOD, with key-associated data
+abbrev fields : Kads → Fields
+fields kads = record {
+  encryption = 2;
+  decryption = 2;
+  index = 1;
+  ceem = 1;
+  rdmd = false;
+  ckod = true;
+  ckorp = false;
+  ckorl = false;
+  key = replicate keySize 0xAA;
+  kads = kads;
+}
+
+abbrev local : Nexus
+local = record { scope = localScope; lock = true; saved = 1; lastLocal = 1; marks = noMarks }
+
+-- "nexus 3 sends K: place 1, number 1"
+abbrev state : ℕ → Kads → State
+state number kads = record {
+  counter = number;
+  sets = set (replicate placeCount (emptySet 0)) 1 (established 3 localScope number (fields kads));
+  nexuses = set (replicate nexusCount newNexus) 3 local;
+}
+
+abbrev status : ℕ → Kads → Status
+status number kads = record {
+  nexusScope = 1;
+  setScope = 1;
+  encryption = 2;
+  decryption = 2;
+  index = 1;
+  number = number;
+  ceems = 1;
+  rdmd = false;
+  kads = kads;
+}
+
+pub p2-written : statusBytes (statusOf (state 1 noKads) 3) ≡ p2
+unfolding statusBytes descriptors selected ownedPlace
+p2-written = refl
+
+pub p2-read : readStatus p2 ≡ record { answer = Done; status = status 1 noKads }
+unfolding readStatus headGood listed
+p2-read = refl
+
+-- the other nexuses' status is that after power-on
+pub p2-others : statusBytes (statusOf (state 1 noKads) 4) ≡ p1
+unfolding statusBytes descriptors selected
+p2-others = refl
+
+-- ---- an instance number of four bytes, and descriptors
+
+abbrev kads : Kads
+kads = kadsOf (0x0A ∷ 0x0B ∷ []) (0x0C ∷ [])
+
+-- the page length counts the bytes after byte 3
+abbrev full : List ℕ
+full =
+    0x00 ∷ 0x20 ∷ 0x00 ∷ 0x1F ∷ 0x21 ∷ 0x02 ∷ 0x02 ∷ 0x01 ∷ 0x01 ∷ 0x02 ∷ 0x03 ∷ 0x04 ∷ 0x02
+    ∷ (replicate 11 0 ++ 0x00 ∷ 0x00 ∷ 0x00 ∷ 0x02 ∷ 0x0A ∷ 0x0B ∷ 0x01 ∷ 0x00 ∷ 0x00 ∷ 0x01 ∷ 0x0C ∷ [])
+
+pub full-written : statusBytes (statusOf (state 0x01020304 kads) 3) ≡ full
+unfolding statusBytes descriptors selected ownedPlace
+full-written = refl
+
+pub full-read : readStatus full ≡ record { answer = Done; status = status 0x01020304 kads }
+unfolding readStatus headGood listed descriptorRules
+full-read = refl
+
+-- ---- what the reader takes, and what it refuses
+
+-- P2's page with another byte
+abbrev other : ℕ → ℕ → List ℕ
+other i byte = set p2 i byte
+
+abbrev answerTo : List ℕ → Answer
+answerTo p = readStatus p .answer
+
+-- "It takes index 0 or 1 and any mixture of modes", every scope and CEEM, and RDMD
+abbrev taken : List (List ℕ)
+taken = other 7 0 ∷ other 5 0 ∷ other 6 0 ∷ other 6 3 ∷ other 4 0x42 ∷ other 4 0x00 ∷ other 12 0x07 ∷ []
+
+pub takes : map answerTo taken ≡ replicate 7 Done
+unfolding readStatus headGood listed
+takes = refl
+
+-- a control bit, VCELB; index 2; bytes 13 and 23; bits 4–3 of byte 4; another page code; codes out of range
+abbrev wrong : List (List ℕ)
+wrong =
+    other 12 0x10 ∷ other 12 0x20 ∷ other 12 0x40 ∷ other 12 0x80 ∷ other 12 0x08
+    ∷ other 7 2
+    ∷ other 13 1 ∷ other 23 1
+    ∷ other 4 0x29 ∷ other 4 0x31
+    ∷ other 0 1 ∷ other 1 0x10
+    ∷ other 4 0x61 ∷ other 4 0x23 ∷ other 5 3 ∷ other 6 4
+    -- a descriptor of type 2, and one that is cut short
+    ∷ set full 24 2 ∷ set full 33 2
+    ∷ []
+
+pub refuses : map readStatus wrong ≡ replicate 18 (refused FieldWrong)
+unfolding readStatus headGood listed descriptorRules
+refuses = refl
+
+-- 23 bytes, with the length that they have and with another; 25 bytes; a length that is counted from byte 0; none
+abbrev misfit : List (List ℕ)
+misfit = set (take 23 p2) 3 0x13 ∷ take 23 p2 ∷ (p2 ++ 0 ∷ []) ∷ other 3 0x18 ∷ [] ∷ []
+
+pub misfits : map readStatus misfit ≡ replicate 5 (refused PageLengthWrong)
+unfolding readStatus
+misfits = refl
