@@ -14,6 +14,8 @@ use Rattle.device.proofs.selected_set.Reads as selected-set
 use Rattle.device.proofs.selected_set.Kinds as selected-set-kinds
 use Rattle.device.proofs.well_formed.Reads as well-formed
 use Rattle.device.proofs.well_formed.Kinds as well-formed-kinds
+use Rattle.device.proofs.with_nexus.Reads as with-nexus
+use Rattle.device.proofs.with_nexus.Kinds as with-nexus-kinds
 
 pub established-settles : SettlesAnswer 0 established-kinds.ps established-kinds.r established.Post
 established-settles κs a x y s t p q = same p q
@@ -35,3 +37,6 @@ selected-set-settles κs a x y s t p q = same p q
 
 pub well-formed-settles : SettlesAnswer 0 well-formed-kinds.ps well-formed-kinds.r well-formed.Post
 well-formed-settles κs a x y s t p q = same p q
+
+pub with-nexus-settles : SettlesAnswer 0 with-nexus-kinds.ps with-nexus-kinds.r with-nexus.Post
+with-nexus-settles κs a x y s t p q = same p q

@@ -5,6 +5,7 @@ ghost use Prim.Native.Nat.{_<_, _*_};
 ghost use lib.ListN.{getD};
 ghost use Rattle.arrays.specs.Arrays.{each, count};
 ghost use Rattle.device.specs.Record.{nexusCount, placeCount, state, device, established, newNexus, powerOn, nexusAt};
+ghost use Rattle.device.specs.Updates.{atNexus};
 ghost use Rattle.device.specs.Selecting.{owns, ownedPlace, orElse, selected, selectedSet};
 ghost use Rattle.device.specs.WellFormed.{fieldCodes, setCodes, keysPast, setTails, scopeFits, fieldsZero, setZero, emptyIsZero, setGood, nexusGood, ownerIsLocal, hasAll, wellFormed};
 
@@ -159,6 +160,17 @@ pub fn nexus_at(d: Device, n: usize) -> Nexus
 {
     let nexuses = d.nexuses;
     nexus_of(nexuses, n)
+}
+
+// The record with a nexus stored; past the last one, as it was.
+pub fn with_nexus(d: Device, n: usize, nexus: Nexus) -> Device
+    ensures { λ r. ⌜ r ≡ device (atNexus n (λ _. nexus) (state d)) ⌝ }
+{
+    let mut out = d;
+    if n < NEXUSES {
+        out.nexuses[n] = nexus;
+    }
+    out
 }
 
 // The place whose set a nexus uses: a LOCAL nexus its own, PUBLIC and ALL nexuses place 0.

@@ -1,0 +1,63 @@
+-- Laws of checks in number order.
+-- Assumes nothing.
+use mathlib.Core.Path.{_≡_, refl, sym, ap, _∙_}
+use mathlib.Core.Bool.{Bool, true, false, not}
+use mathlib.Core.List.{List, [], _∷_, _++_}
+use borrow.Author.Tests.{not-true, not-false}
+use Rattle.arrays.specs.Base.{pick}
+use Rattle.arrays.proofs.Base.{cases, clash}
+use Rattle.answer.specs.Answers.{isDone}
+use Rattle.answer.specs.declared.Answer.{Answer}
+use Rattle.answer.proofs.Numbers.{done-is}
+use Rattle.drive.specs.Answers.{due, firstOf}
+
+-- where the first checks find a fault, theirs is the answer
+pub first-stops : (a b : List Answer) → isDone (firstOf a) ≡ false → firstOf (a ++ b) ≡ firstOf a
+first-stops [] b f = clash refl f
+first-stops (x ∷ a) b f = cases (isDone x) (λ t. rw t (first-stops a b (rw t at f))) (λ t. rw t)
+
+-- and where they find none, the others decide
+pub first-passes : (a b : List Answer) → isDone (firstOf a) ≡ true → firstOf (a ++ b) ≡ firstOf b
+first-passes [] b e = refl
+first-passes (x ∷ a) b e = cases (isDone x) (λ t. rw t (first-passes a b (rw t at e))) (λ t. clash (rw t at e) t)
+
+-- the first check's fault
+pub first-fault : (a : Answer) (more : List Answer) → isDone a ≡ false → firstOf (a ∷ more) ≡ a
+first-fault a more f = rw f
+
+-- the first check passed
+pub first-next : (a : Answer) (more : List Answer) → isDone a ≡ true → firstOf (a ∷ more) ≡ firstOf more
+first-next a more t = rw t
+
+-- the last check decides
+pub last-is : (a : Answer) → firstOf (a ∷ []) ≡ a
+last-is a = cases (isDone a) (λ t. rw t (sym (done-is a t))) (λ f. rw f)
+
+-- each check is passed
+abbrev pub AllDone : List Answer → Type 0
+AllDone [] = Unit
+AllDone (a ∷ more) = (isDone a ≡ true) × AllDone more
+
+-- a call that is carried out has passed every check
+pub all-done : (l : List Answer) → isDone (firstOf l) ≡ true → AllDone l
+all-done [] e = tt
+all-done (a ∷ more) e = cases (isDone a) (λ t. (t, all-done more (rw t at e))) (λ f. clash (rw f at e) f)
+
+-- a check whose answer has a number found no fault
+pub passed : (fault : Bool) (a : Answer) → isDone a ≡ false → isDone (due fault a) ≡ true → fault ≡ false
+passed true a n e = clash e n
+passed false a n e = refl
+
+-- what a branch on a call's `is_done` tells
+pub fault-told : {b r : Bool} → r ≡ b → not r ≡ true → b ≡ false
+fault-told {b} {r} e t = sym e ∙ not-true r t
+
+pub done-told : {b r : Bool} → r ≡ b → not r ≡ false → b ≡ true
+done-told {b} {r} e t = sym e ∙ not-false r t
+
+-- and of the checks that the call made
+pub told-fault : {a b : Answer} {r : Bool} → a ≡ b → r ≡ isDone a → not r ≡ true → isDone b ≡ false
+told-fault e d t = ap isDone (sym e) ∙ fault-told d t
+
+pub told-done : {a b : Answer} {r : Bool} → a ≡ b → r ≡ isDone a → not r ≡ false → isDone b ≡ true
+told-done e d t = ap isDone (sym e) ∙ done-told d t

@@ -1,0 +1,4 @@
+pub mod Checks
+pub mod Same
+pub mod Outcomes
+pub mod Table

@@ -1,0 +1,5 @@
+pub mod Calls
+pub mod Answers
+pub mod After
+pub mod Runs
+pub mod Outcomes

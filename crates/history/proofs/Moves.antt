@@ -1,0 +1,273 @@
+-- Two records that maps make the same stay so under every call, where the maps keep what the rules read and no flag tells them apart.
+-- Assumes nothing.
+use Prim.Native.Nat.{ℕ}
+use mathlib.Core.Bool.{Bool, true, false, not, _&&_}
+use mathlib.Core.List.{List, [], _∷_, map}
+use mathlib.Core.Path.{_≡_, refl, sym, _∙_, ap, ap₂, subst}
+use lib.Dec.{eqb}
+use lib.ListN.{length, set, length-map}
+use Rattle.arrays.specs.Base.{pick}
+use Rattle.arrays.specs.Arrays.{mapFrom}
+use Rattle.arrays.proofs.Base.{cases, pick-map}
+use Rattle.answer.specs.Answers.{isDone}
+use Rattle.answer.specs.declared.Answer.{Answer}
+use Rattle.page.specs.declared.Page.{Page}
+use Rattle.page.specs.declared.Checked.{Checked}
+use Rattle.device.specs.Record.{State, setAt, nexusAt, noSet, newNexus, publicScope, noMarks}
+use Rattle.device.specs.Updates.{registered, withMarks, withScope, numbered, withSupplemental, atNexus}
+use Rattle.device.specs.Selecting.{selected, selectedSet}
+use Rattle.device.specs.WellFormed.{wellFormed}
+use Rattle.device.specs.declared.Set.{Set}
+use Rattle.device.specs.declared.Marks.{Marks}
+use Rattle.device.specs.declared.Nexus.{Nexus}
+use Rattle.marks.specs.Reset.{unmarked}
+use Rattle.places.specs.Actions.{Action, drawn, freed, act, acts, releases, releasedBy, pageActions, settledNexus, settled, appended, supplemented, taken}
+use Rattle.drive.specs.Calls.{Call, powerUp, securityIn, securityOut, write, unitReset, happens}
+use Rattle.drive.specs.Answers.{firstOf, heard, pageChecked, answer}
+use Rattle.drive.specs.After.{marksAfter, remarked, refused, registers, differs, told, alerted, isActor, flagged, accepted, actorOf, happened, cleared, after}
+use Rattle.drive.specs.declared.Actor.{Actor}
+use Rattle.drive.specs.declared.Actor.the-variants.{Acting}
+use Rattle.history.specs.History.{mapped}
+use Rattle.history.proofs.Lists.{map-set, map-mapFrom, map-over}
+use Rattle.history.proofs.Writes.{refused-write}
+use Rattle.history.proofs.Lists as lists
+use Rattle.history.proofs.Keeps.{Keeps, carried}
+use Rattle.history.proofs.Keeps as keeps
+
+-- what three maps, of the counter, of a set and of a nexus, do with each change that a call makes
+pub record Moves (c : ℕ → ℕ) (f : Set → Set) (g : Nexus → Nexus) : Type 0 where
+  pub counter : (i j : ℕ) → c i ≡ c j → c (drawn i) ≡ c (drawn j)
+  pub number : (i j : ℕ) (x : Set) → c i ≡ c j → f (numbered (drawn i) x) ≡ f (numbered (drawn j) x)
+  pub extends : (key : List ℕ) (x y : Set) → f x ≡ f y → f (withSupplemental (appended key (x .supplemental)) x) ≡ f (withSupplemental (appended key (y .supplemental)) y)
+  pub scopes : (scope : ℕ) (x : Nexus) → g (withScope scope x) ≡ withScope scope (g x)
+  pub remarks : (marks : Marks) (x : Nexus) → g (withMarks marks x) ≡ withMarks marks (g x)
+  pub settles : (page : Page) (a b : Set) (x y : Nexus) → f a ≡ f b → g x ≡ g y → g (settledNexus page (a .number) x) ≡ g (settledNexus page (b .number) y)
+
+-- the record as a call that is carried out leaves it, before the flags
+abbrev pub changed : State → Call → State
+changed s powerUp = s
+changed s (securityIn n protocol code) = s
+changed s (securityOut n protocol code page) = registers (taken s n (pageChecked s n page .page)) n
+changed s (write n supported) = s
+changed s unitReset = s
+changed s (happens event) = acts s (releases (releasedBy event) (s .sets))
+
+module _ (c : ℕ → ℕ) (f : Set → Set) (g : Nexus → Nexus) (k : Keeps f g) (m : Moves c f g) where
+  -- the maps make them the same
+  pub record Alike (s t : State) : Type 0 where
+    pub counter : c (s .counter) ≡ c (t .counter)
+    pub sets : map f (s .sets) ≡ map f (t .sets)
+    pub nexuses : map g (s .nexuses) ≡ map g (t .nexuses)
+
+  -- that is, what they make of both is one record
+  pub alike-same : (s t : State) → Alike s t → mapped c f g s ≡ mapped c f g t
+  alike-same s t a = λ i. record { counter = a .counter i; sets = a .sets i; nexuses = a .nexuses i }
+
+  -- the maps keep being well formed
+  abbrev pub Formed : State → Type 0
+  Formed s = wellFormed (mapped c f g s) ≡ wellFormed s
+
+  -- what the maps keep is the same of both
+  pub through : {X : Type 0} (F : State → X) (s t : State) → F (mapped c f g s) ≡ F s → F (mapped c f g t) ≡ F t → Alike s t → F s ≡ F t
+  through F s t e h a = sym e ∙ ap F (alike-same s t a) ∙ h
+
+  -- the place that a nexus uses
+  pub same-selected : (n : ℕ) (s t : State) → Alike s t → selected s n ≡ selected t n
+  same-selected n s t = through (λ x. selected x n) s t (keeps.selected-kept f g k c s n) (keeps.selected-kept f g k c t n)
+
+  -- what is made of a nexus
+  same-nexus : (n : ℕ) (s t : State) → Alike s t → g (nexusAt s n) ≡ g (nexusAt t n)
+  same-nexus n s t a = lists.read-same g (s .nexuses) (t .nexuses) newNexus (a .nexuses) n
+
+  -- of a set
+  same-set : (p : ℕ) (s t : State) → Alike s t → f (setAt s p) ≡ f (setAt t p)
+  same-set p s t a = lists.read-same f (s .sets) (t .sets) noSet (a .sets) p
+
+  -- and a nexus's marks
+  same-marks : (x y : Nexus) → g x ≡ g y → x .marks ≡ y .marks
+  same-marks x y e = sym (k .marks x) ∙ ap (λ z. z .marks) e ∙ k .marks y
+
+  -- where one of two is picked
+  pick-alike : (b : Bool) (s t u v : State) → Alike s u → Alike t v → Alike (pick b s t) (pick b u v)
+  pick-alike true s t u v a b = a
+  pick-alike false s t u v a b = b
+
+  -- a nexus made anew
+  at-alike : (n : ℕ) (u v : Nexus → Nexus) (s t : State) → (g (nexusAt s n) ≡ g (nexusAt t n) → g (u (nexusAt s n)) ≡ g (v (nexusAt t n))) → Alike s t → Alike (atNexus n u s) (atNexus n v t)
+  at-alike n u v s t e a = record {
+    counter = a .counter;
+    sets = a .sets;
+    nexuses =
+        map-set g (s .nexuses) n (u (nexusAt s n))
+        ∙ ap₂ (λ (l : List Nexus) (x : Nexus). set l n x) (a .nexuses) (e (same-nexus n s t a))
+        ∙ sym (map-set g (t .nexuses) n (v (nexusAt t n)));
+  }
+
+  -- its marks made anew
+  remark-alike : (n : ℕ) (h : Marks → Marks) (s t : State) → Alike s t → Alike (atNexus n (remarked h) s) (atNexus n (remarked h) t)
+  remark-alike n h s t a =
+      at-alike n (remarked h) (remarked h) s t
+      (λ e. m .remarks _ _ ∙ ap₂ (λ (r : Marks) (x : Nexus). withMarks (h r) x) (same-marks (nexusAt s n) (nexusAt t n) e) e ∙ sym (m .remarks _ _))
+      a
+
+  -- a refusal
+  refused-alike : (n : ℕ) (answer : Answer) (s t : State) → Alike s t → Alike (refused s n answer) (refused t n answer)
+  unfolding refused
+  refused-alike n answer s t a = remark-alike n (marksAfter answer) s t a
+
+  -- a nexus registered
+  registers-alike : (n : ℕ) (s t : State) → Alike s t → Alike (registers s n) (registers t n)
+  unfolding registers
+  registers-alike n s t a = remark-alike n registered s t a
+
+  -- all nexuses made anew
+  each-alike : (u v : ℕ → Nexus → Nexus) → ((i : ℕ) (x : Nexus) → g (u i x) ≡ v i (g x)) → ((i : ℕ) (x : Nexus) → g (v i x) ≡ v i (g x)) → (l r : List Nexus) → map g l ≡ map g r → map g (mapFrom u 0 l) ≡ map g (mapFrom v 0 r)
+  each-alike u v e h l r a =
+      map-mapFrom g u v e 0 l
+      ∙ ap (λ (x : List Nexus). mapFrom v 0 x) a
+      ∙ sym (map-mapFrom g v v h 0 r)
+
+  -- an action
+  act-alike : (x : Action) (s t : State) → Alike s t → Alike (act s x) (act t x)
+  unfolding act
+  act-alike x s t a = record {
+    counter = m .counter (s .counter) (t .counter) (a .counter);
+    sets =
+        map-set f (s .sets) (x .place) (numbered (drawn (s .counter)) (x .contents))
+        ∙ ap₂ (λ (l : List Set) (y : Set). set l (x .place) y) (a .sets) (m .number (s .counter) (t .counter) (x .contents) (a .counter))
+        ∙ sym (map-set f (t .sets) (x .place) (numbered (drawn (t .counter)) (x .contents)));
+    nexuses =
+        each-alike (freed s (x .place)) (freed t (x .place))
+        (λ i y. free s i y ∙ ap (λ p. pick (eqb p (x .place)) (withScope publicScope (g y)) (g y)) (same-selected i s t a))
+        (λ i y. free t i y)
+        (s .nexuses) (t .nexuses) (a .nexuses);
+  }
+    where
+      free : (s : State) (i : ℕ) (y : Nexus) → g (freed s (x .place) i y) ≡ freed s (x .place) i (g y)
+      free s i y = pick-map g (eqb (selected s i) (x .place)) _ _ ∙ ap (λ (z : Nexus). pick (eqb (selected s i) (x .place)) z (g y)) (m .scopes publicScope y)
+
+  -- several
+  acts-alike : (l : List Action) (s t : State) → Alike s t → Alike (acts s l) (acts t l)
+  unfolding acts
+  acts-alike [] s t a = a
+  acts-alike (x ∷ l) s t a = acts-alike l (act s x) (act t x) (act-alike x s t a)
+
+  -- the sender settled
+  settled-alike : (n : ℕ) (page : Page) (s t : State) → Alike s t → Alike (settled s n page) (settled t n page)
+  unfolding settled
+  settled-alike n page s t a =
+      let scoped : Alike (atNexus n (withScope (page .scope)) s) (atNexus n (withScope (page .scope)) t) =
+      at-alike n (withScope (page .scope)) (withScope (page .scope)) s t (λ e. m .scopes _ _ ∙ ap (withScope (page .scope)) e ∙ sym (m .scopes _ _)) a in
+      let q : State → Set = λ x. selectedSet (atNexus n (withScope (page .scope)) x) n in
+      let p = same-selected n _ _ scoped in
+      let number : f (q s) ≡ f (q t) = ap (λ i. f (setAt s i)) p ∙ same-set _ s t a in
+      at-alike n (settledNexus page (q s .number)) (settledNexus page (q t .number)) s t (m .settles page (q s) (q t) (nexusAt s n) (nexusAt t n) number) a
+
+  -- a supplemental key
+  supplemented-alike : (n : ℕ) (page : Page) (s t : State) → Alike s t → Alike (supplemented s n page) (supplemented t n page)
+  unfolding supplemented
+  supplemented-alike n page s t a =
+      let more : Set → Set = λ x. withSupplemental (appended (page .fields .key) (x .supplemental)) x in
+      let p = same-selected n s t a in
+      record {
+        counter = a .counter;
+        sets =
+            map-set f (s .sets) (selected s n) (more (setAt s (selected s n)))
+            ∙ ap (λ q. set (map f (s .sets)) q (f (more (setAt s q)))) p
+            ∙ ap₂ (λ (l : List Set) (y : Set). set l (selected t n) y) (a .sets) (m .extends (page .fields .key) (setAt s (selected t n)) (setAt t (selected t n)) (same-set (selected t n) s t a))
+            ∙ sym (map-set f (t .sets) (selected t n) (more (setAt t (selected t n))));
+        nexuses = a .nexuses;
+      }
+
+  -- a page taken
+  taken-alike : (n : ℕ) (page : Page) (s t : State) → Alike s t → Alike (taken s n page) (taken t n page)
+  unfolding taken
+  taken-alike n page s t a =
+      let done : Alike (acts s (pageActions s n page)) (acts t (pageActions t n page)) =
+      rw (through (λ x. pageActions x n page) s t (keeps.page-actions-kept f g k c s n page) (keeps.page-actions-kept f g k c t n page) a) (acts-alike (pageActions t n page) s t a) in
+      pick-alike (page .supplemental) _ _ _ _ (supplemented-alike n page s t a) (settled-alike n page _ _ done)
+
+  -- the flags, where they tell the same
+  flagged-alike : (actor : Actor) (s u t v : State) → ((n : ℕ) → differs s u n ≡ differs t v n) → Alike s t → Alike u v → Alike (flagged actor s u) (flagged actor t v)
+  unfolding flagged
+  flagged-alike actor s u t v d a b = record {
+    counter = b .counter;
+    sets = b .sets;
+    nexuses =
+        each-alike (λ i. remarked (alerted actor (told s u actor i))) (λ i. remarked (alerted actor (told t v actor i)))
+        (λ i x. remark s u i x ∙ ap (λ w. remarked (alerted actor w) (g x)) (tells i))
+        (λ i x. remark t v i x)
+        (u .nexuses) (v .nexuses) (b .nexuses);
+  }
+    where
+      tells : (i : ℕ) → told s u actor i ≡ told t v actor i
+      tells i = ap₂ (λ (r : Marks) w. r .registered && not (isActor actor i) && w) (same-marks (nexusAt s i) (nexusAt t i) (same-nexus i s t a)) (d i)
+
+      remark : (s u : State) (i : ℕ) (x : Nexus) → g (remarked (alerted actor (told s u actor i)) x) ≡ remarked (alerted actor (told s u actor i)) (g x)
+      remark s u i x = m .remarks _ x ∙ ap (λ r. withMarks (alerted actor (told s u actor i) r) (g x)) (sym (k .marks x))
+
+  -- a reset
+  cleared-alike : (s t : State) → Alike s t → Alike (cleared s) (cleared t)
+  unfolding cleared
+  cleared-alike s t a = record {
+    counter = a .counter;
+    sets = a .sets;
+    nexuses = over s ∙ ap (map unmarked) (a .nexuses) ∙ sym (over t);
+  }
+    where
+      over : (x : State) → map g (map unmarked (x .nexuses)) ≡ map unmarked (map g (x .nexuses))
+      over x = map-over g unmarked unmarked (λ y. m .remarks noMarks y) (x .nexuses)
+
+  -- a call that is carried out, before the flags
+  pub changed-alike : (call : Call) (s t : State) → Alike s t → Alike (changed s call) (changed t call)
+  changed-alike powerUp s t a = a
+  changed-alike (securityIn n protocol code) s t a = a
+  changed-alike (securityOut n protocol code page) s t a =
+      let e : pageChecked s n page ≡ pageChecked t n page = through (λ x. pageChecked x n page) s t (keeps.page-kept f g k c s n page) (keeps.page-kept f g k c t n page) a in
+      subst (λ (p : Checked). Alike (changed s (securityOut n protocol code page)) (registers (taken t n (p .page)) n)) e
+      (registers-alike n _ _ (taken-alike n (pageChecked s n page .page) s t a))
+  changed-alike (write n supported) s t a = a
+  changed-alike unitReset s t a = a
+  changed-alike (happens event) s t a =
+      let e : releases (releasedBy event) (s .sets) ≡ releases (releasedBy event) (t .sets) = through (λ x. carried x (happens event)) s t (keeps.carried-kept f g k c s (happens event)) (keeps.carried-kept f g k c t (happens event)) a in
+      subst (λ l. Alike (changed s (happens event)) (acts t l)) e (acts-alike (releases (releasedBy event) (s .sets)) s t a)
+
+  -- the flags that it sets, where they tell the same
+  flags-alike : (call : Call) (actor : Actor) (s t : State) → ((i : ℕ) → differs s (changed s call) i ≡ differs t (changed t call) i) → Alike s t → Alike (flagged actor s (changed s call)) (flagged actor t (changed t call))
+  flags-alike call actor s t d a = flagged-alike actor s (changed s call) t (changed t call) d a (changed-alike call s t a)
+
+  -- a call that is refused or carried out by an answer that both give
+  by-answer : (x y : Answer) (s u t v : State) (n : ℕ) → x ≡ y → Alike s t → (isDone x ≡ true → Alike u v) → Alike (pick (isDone x) u (refused s n x)) (pick (isDone y) v (refused t n y))
+  by-answer x y s u t v n e a d =
+      subst (λ z. Alike (pick (isDone x) u (refused s n x)) (pick (isDone z) v (refused t n z))) e
+      (cases (isDone x)
+      (λ b. rw b (d b))
+      (λ b. rw b (refused-alike n x s t a)))
+
+  -- one that a refusal leaves as it was
+  by-done : (x y : Answer) (s u t v : State) → x ≡ y → Alike s t → (isDone x ≡ true → Alike u v) → Alike (pick (isDone x) u s) (pick (isDone y) v t)
+  by-done x y s u t v e a d =
+      subst (λ z. Alike (pick (isDone x) u s) (pick (isDone z) v t)) e
+      (cases (isDone x)
+      (λ b. rw b (d b))
+      (λ b. rw b a))
+
+  -- every call
+  pub after-alike : (call : Call) (s t : State) → Formed s → Formed t → (isDone (answer s call) ≡ true → (n : ℕ) → differs s (changed s call) n ≡ differs t (changed t call) n) → Alike s t → Alike (after s call) (after t call)
+  unfolding after accepted happened
+  after-alike powerUp s t ws wt d a =
+      let n : length (s .nexuses) ≡ length (t .nexuses) = through (λ x. length (x .nexuses)) s t (length-map (s .nexuses) g) (length-map (t .nexuses) g) a in
+      let p : length (s .sets) ≡ length (t .sets) = through (λ x. length (x .sets)) s t (length-map (s .sets) f) (length-map (t .sets) f) a in
+      rw (n, p) (record { counter = refl; sets = refl; nexuses = refl })
+  after-alike (securityIn n protocol code) s t ws wt d a =
+      by-answer _ _ s _ t _ n (through (λ x. answer x (securityIn n protocol code)) s t (keeps.in-kept f g k c s ws n protocol code) (keeps.in-kept f g k c t wt n protocol code) a) a (λ b. registers-alike n s t a)
+  after-alike (securityOut n protocol code page) s t ws wt d a =
+      by-answer _ _ s _ t _ n (through (λ x. answer x (securityOut n protocol code page)) s t (keeps.out-kept f g k c s ws n protocol code page) (keeps.out-kept f g k c t wt n protocol code page) a) a
+      (λ b. flags-alike (securityOut n protocol code page) (Acting n) s t (d b) a)
+  after-alike (write n supported) s t ws wt d a =
+      rw (refused-write s n supported, refused-write t n supported)
+      (subst (λ z. Alike (refused s n (firstOf (heard s n))) (refused t n (firstOf z))) (through (λ x. heard x n) s t (keeps.heard-kept f g k c s ws n) (keeps.heard-kept f g k c t wt n) a) (refused-alike n (firstOf (heard s n)) s t a))
+  after-alike unitReset s t ws wt d a =
+      by-done _ _ s _ t _ (through (λ x. answer x unitReset) s t (keeps.reset-kept f g k c s ws) (keeps.reset-kept f g k c t wt) a) a (λ b. cleared-alike s t a)
+  after-alike (happens event) s t ws wt d a =
+      by-done _ _ s _ t _ (through (λ x. answer x (happens event)) s t (keeps.event-kept f g k c s ws event) (keeps.event-kept f g k c t wt event) a) a (λ b. flags-alike (happens event) (actorOf event) s t (d b) a)

@@ -1,0 +1,1 @@
+// What is true of every sequence of calls: see specs/ and proofs/. This crate has no function.

@@ -1,0 +1,8 @@
+pub mod Lists
+pub mod Near
+pub mod Freed
+pub mod Steps
+pub mod Kept
+pub mod Sizes
+pub mod Calls
+pub mod Runs

@@ -1,0 +1,22 @@
+-- Every public function's promise settles its answer.
+use Rattle.settled.specs.Settles.{SettlesAnswer, same}
+use Rattle.places.proofs.own_place.Reads as own-place
+use Rattle.places.proofs.own_place.Kinds as own-place-kinds
+use Rattle.places.proofs.room_for.Reads as room-for
+use Rattle.places.proofs.room_for.Kinds as room-for-kinds
+use Rattle.places.proofs.take_page.Reads as take-page
+use Rattle.places.proofs.take_page.Kinds as take-page-kinds
+use Rattle.places.proofs.release_by.Reads as release-by
+use Rattle.places.proofs.release_by.Kinds as release-by-kinds
+
+pub own-place-settles : SettlesAnswer 0 own-place-kinds.ps own-place-kinds.r own-place.Post
+own-place-settles κs a x y s t p q = same p q
+
+pub room-for-settles : SettlesAnswer 0 room-for-kinds.ps room-for-kinds.r room-for.Post
+room-for-settles κs a x y s t p q = same p q
+
+pub take-page-settles : SettlesAnswer 0 take-page-kinds.ps take-page-kinds.r take-page.Post
+take-page-settles κs a x y s t p q = same p q
+
+pub release-by-settles : SettlesAnswer 0 release-by-kinds.ps release-by-kinds.r release-by.Post
+release-by-settles κs a x y s t p q = same p q

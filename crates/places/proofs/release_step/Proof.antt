@@ -1,0 +1,24 @@
+use borrow.Author.Needs.{needs}
+use mathlib.Core.Path.{sym, ap, _∙_}
+use Rattle.device.specs.Record.{state, device}
+use Rattle.places.specs.Actions.{release, act}
+use Rattle.places.proofs.Releases.{pick-first, pick-second}
+use Rattle.places.proofs.release_step.Statement.{statement}
+use Rattle.places.proofs.release_step.Tie as tie
+
+pub release-step-spec : {M : Type 1} → statement M
+release-step-spec =
+    tie.close
+    (tie.spec
+    (λ c. search needs)
+    (λ c. search needs)
+    (λ c κs. search needs)
+    (λ c κs. search needs)
+    (λ c.
+    let tested = c .before .before in
+    let a = tested .before .before .before .args in
+    c .release .ensures ∙ ap device (sym (pick-first (act (state (a .t1)) (release (a .place))) (state (a .t1)) (rw (tested .is-released .ensures) at (c .before .if1 .taken)))))
+    (λ c.
+    let tested = c .before in
+    let a = tested .before .before .before .args in
+    ap device (sym (pick-second (act (state (a .t1)) (release (a .place))) (state (a .t1)) (rw (tested .is-released .ensures) at (c .if1 .left))))))

@@ -1,0 +1,15 @@
+use borrow.Author.Needs.{needs}
+use Rattle.places.specs.Actions.{taken}
+use Rattle.places.proofs.take_page.Statement.{statement}
+use Rattle.places.proofs.take_page.Tie as tie
+
+pub take-page-spec : {M : Type 1} → statement M
+unfolding taken
+take-page-spec =
+    tie.close
+    (tie.spec
+    (λ c κs. search needs)
+    (λ c. simp (c .before .if1 .taken, c .supplement .ensures))
+    (λ c κs. search needs)
+    (λ c κs. search needs)
+    (λ c. simp (c .before .before .if1 .left, c .settle .ensures, c .before .act-page .ensures)))

@@ -1,0 +1,12 @@
+use borrow.Author.Needs.{needs}
+use Rattle.places.proofs.taken_at.Statement.{statement}
+use Rattle.places.proofs.taken_at.Tie as tie
+
+pub taken-at-spec : {M : Type 1} → statement M
+taken-at-spec =
+    tie.close
+    (tie.spec
+    (λ c. search needs)
+    (λ c. search needs)
+    (λ c. simp (c .before .found .given .1))
+    (λ c. search needs))
