@@ -1,4 +1,5 @@
 pub mod Checks
 pub mod Same
 pub mod Outcomes
+pub mod Settled
 pub mod Table
