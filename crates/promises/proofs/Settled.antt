@@ -52,6 +52,7 @@ pub use Rattle.status.proofs.Settled.{status-of-settles as status-status-of-set
 pub use Rattle.status.proofs.Settled.{read-status-settles as status-read-status-settles}
 -- crate marks
 pub use Rattle.marks.proofs.Settled.{cleared-settles as marks-cleared-settles}
+pub use Rattle.marks.proofs.Settled.{clear-marks-settles as marks-clear-marks-settles}
 -- crate places
 pub use Rattle.places.proofs.Settled.{own-place-settles as places-own-place-settles}
 pub use Rattle.places.proofs.Settled.{room-for-settles as places-room-for-settles}
