@@ -1,0 +1,192 @@
+//! The account a call gives of itself: which rules of 01 were at work, for the comparison's counts and
+//! its reports. It never decides an answer.
+
+use crate::set_page::Broken;
+use crate::status_page::StatusRule;
+use crate::well_formed::Clause;
+use std::fmt;
+
+/// A rule of 01 that a call can come to, apart from the rules that pages and records can break.
+#[derive(Clone, Copy, PartialEq, Eq, PartialOrd, Ord, Debug)]
+pub enum Rule {
+    NexusAbove15,
+    PlaceAbove4,
+    PendingAnotherNexus,
+    PendingVendorEvent,
+    ProtocolNot20,
+    PageNotSupported,
+    Registers,
+    RegisteredAlready,
+    Draws,
+    DrawWraps,
+    Releases,
+    EmptyPlaceNotReleased,
+    LocalNexusBecomesPublic,
+    AllNexusBecomesPublic,
+    LockStaysAtRelease,
+    PublicReleasesOwnPlace,
+    PublicWithoutOwnPlace,
+    PublicFromAllLeavesPlaceZero,
+    AllReleasesOwnPlace,
+    AllWithoutOwnPlace,
+    AllEstablishesPlaceZero,
+    OtherAllNexusBecomesPublic,
+    LocalTakesPresentPlace,
+    LocalTakesLowestEmptyPlace,
+    LocalTakesPlaceOfUnlockedOwner,
+    LocalFindsNoPlace,
+    LocalFromAllLeavesPlaceZero,
+    LocalSavesLastLocalNumber,
+    EstablishesWithKey,
+    EstablishesWithoutKey,
+    EstablishesWithUKad,
+    EstablishesWithAKad,
+    EstablishesWithRdmd,
+    LockSavesNumber,
+    NoLockKeepsSavedNumber,
+    AppendsSupplementalKey,
+    FifthSupplementalKey,
+    FlagsAnotherNexus,
+    FlagsVendorEvent,
+    FlagsForPlaceAlone,
+    FlagsForNumberAlone,
+    NoFlagWhenNotRegistered,
+    NoFlagForActingNexus,
+    NoFlagForUnchangedSelection,
+    ResetClearsRegistered,
+    ResetClearsPending,
+    WritesClear,
+    WritesExternal,
+    WritesEncrypted,
+    WriteLockedAndUnchanged,
+    WriteKeyInstanceChanged,
+    WriteChangedButNotLocked,
+    WriteNotSupported,
+    WriteNotSupportedButNotEncrypted,
+    BufferShorterThanPage,
+    BufferOfPageLength,
+    BufferLongerThanPage,
+}
+
+impl Rule {
+    pub const EVERY: [Rule; 57] = [
+        Rule::NexusAbove15,
+        Rule::PlaceAbove4,
+        Rule::PendingAnotherNexus,
+        Rule::PendingVendorEvent,
+        Rule::ProtocolNot20,
+        Rule::PageNotSupported,
+        Rule::Registers,
+        Rule::RegisteredAlready,
+        Rule::Draws,
+        Rule::DrawWraps,
+        Rule::Releases,
+        Rule::EmptyPlaceNotReleased,
+        Rule::LocalNexusBecomesPublic,
+        Rule::AllNexusBecomesPublic,
+        Rule::LockStaysAtRelease,
+        Rule::PublicReleasesOwnPlace,
+        Rule::PublicWithoutOwnPlace,
+        Rule::PublicFromAllLeavesPlaceZero,
+        Rule::AllReleasesOwnPlace,
+        Rule::AllWithoutOwnPlace,
+        Rule::AllEstablishesPlaceZero,
+        Rule::OtherAllNexusBecomesPublic,
+        Rule::LocalTakesPresentPlace,
+        Rule::LocalTakesLowestEmptyPlace,
+        Rule::LocalTakesPlaceOfUnlockedOwner,
+        Rule::LocalFindsNoPlace,
+        Rule::LocalFromAllLeavesPlaceZero,
+        Rule::LocalSavesLastLocalNumber,
+        Rule::EstablishesWithKey,
+        Rule::EstablishesWithoutKey,
+        Rule::EstablishesWithUKad,
+        Rule::EstablishesWithAKad,
+        Rule::EstablishesWithRdmd,
+        Rule::LockSavesNumber,
+        Rule::NoLockKeepsSavedNumber,
+        Rule::AppendsSupplementalKey,
+        Rule::FifthSupplementalKey,
+        Rule::FlagsAnotherNexus,
+        Rule::FlagsVendorEvent,
+        Rule::FlagsForPlaceAlone,
+        Rule::FlagsForNumberAlone,
+        Rule::NoFlagWhenNotRegistered,
+        Rule::NoFlagForActingNexus,
+        Rule::NoFlagForUnchangedSelection,
+        Rule::ResetClearsRegistered,
+        Rule::ResetClearsPending,
+        Rule::WritesClear,
+        Rule::WritesExternal,
+        Rule::WritesEncrypted,
+        Rule::WriteLockedAndUnchanged,
+        Rule::WriteKeyInstanceChanged,
+        Rule::WriteChangedButNotLocked,
+        Rule::WriteNotSupported,
+        Rule::WriteNotSupportedButNotEncrypted,
+        Rule::BufferShorterThanPage,
+        Rule::BufferOfPageLength,
+        Rule::BufferLongerThanPage,
+    ];
+}
+
+/// A rule at work, with what it was about.
+#[derive(Clone, Copy, PartialEq, Eq, Debug)]
+pub struct Step {
+    pub rule: Rule,
+    pub place: Option<usize>,
+    pub nexus: Option<usize>,
+    pub number: Option<u32>,
+}
+
+impl fmt::Display for Step {
+    fn fmt(&self, formatter: &mut fmt::Formatter) -> fmt::Result {
+        write!(formatter, "{:?}", self.rule)?;
+        if let Some(nexus) = self.nexus {
+            write!(formatter, ", nexus {nexus}")?;
+        }
+        if let Some(place) = self.place {
+            write!(formatter, ", place {place}")?;
+        }
+        if let Some(number) = self.number {
+            write!(formatter, ", number {number}")?;
+        }
+        Ok(())
+    }
+}
+
+/// The account of one call.
+#[derive(Clone, Default, PartialEq, Eq, Debug)]
+pub struct Account {
+    pub clauses: Vec<Clause>,
+    pub page_rules: Vec<Broken>,
+    pub status_rules: Vec<StatusRule>,
+    pub steps: Vec<Step>,
+}
+
+impl Account {
+    /// Notes a rule about nothing in particular.
+    pub fn note(&mut self, rule: Rule) {
+        self.steps.push(Step { rule, place: None, nexus: None, number: None });
+    }
+
+    /// Notes a rule about a nexus.
+    pub fn note_nexus(&mut self, rule: Rule, nexus: usize) {
+        self.steps.push(Step { rule, place: None, nexus: Some(nexus), number: None });
+    }
+
+    /// Notes a rule about a place.
+    pub fn note_place(&mut self, rule: Rule, place: usize) {
+        self.steps.push(Step { rule, place: Some(place), nexus: None, number: None });
+    }
+
+    /// Notes a rule about a place and a number.
+    pub fn note_number(&mut self, rule: Rule, place: usize, number: u32) {
+        self.steps.push(Step { rule, place: Some(place), nexus: None, number: Some(number) });
+    }
+
+    /// Whether a rule was at work.
+    pub fn tells(&self, rule: Rule) -> bool {
+        self.steps.iter().any(|step| step.rule == rule)
+    }
+}

@@ -1,0 +1,100 @@
+//! 01, "Answer numbers": the refusals and their sense bytes. Answer 0, "done", is an `Ok`.
+
+/// Sense key, ASC and ASCQ; zeros where 01 says "none".
+pub type Sense = [u8; 3];
+
+/// The sense of an answer that has none.
+pub const NO_SENSE: Sense = [0, 0, 0];
+
+/// Answers 1 to 13, in the order in which their checks run.
+#[derive(Clone, Copy, PartialEq, Eq, PartialOrd, Ord, Debug)]
+pub enum Refused {
+    RecordNotWellFormed,
+    NexusAbove15,
+    ChangedByAnotherNexus,
+    ChangedByVendorEvent,
+    ProtocolNot20,
+    PageNotSupported,
+    PageLengthWrong,
+    FieldWrong,
+    FifthSupplementalKey,
+    NoPlaceForLocalSet,
+    KeyInstanceChanged,
+    ParametersNotUsable,
+    PlaceAbove4,
+}
+
+impl Refused {
+    pub const EVERY: [Refused; 13] = [
+        Refused::RecordNotWellFormed,
+        Refused::NexusAbove15,
+        Refused::ChangedByAnotherNexus,
+        Refused::ChangedByVendorEvent,
+        Refused::ProtocolNot20,
+        Refused::PageNotSupported,
+        Refused::PageLengthWrong,
+        Refused::FieldWrong,
+        Refused::FifthSupplementalKey,
+        Refused::NoPlaceForLocalSet,
+        Refused::KeyInstanceChanged,
+        Refused::ParametersNotUsable,
+        Refused::PlaceAbove4,
+    ];
+
+    /// The column "No." of 01's table.
+    pub fn number(self) -> u8 {
+        match self {
+            Refused::RecordNotWellFormed => 1,
+            Refused::NexusAbove15 => 2,
+            Refused::ChangedByAnotherNexus => 3,
+            Refused::ChangedByVendorEvent => 4,
+            Refused::ProtocolNot20 => 5,
+            Refused::PageNotSupported => 6,
+            Refused::PageLengthWrong => 7,
+            Refused::FieldWrong => 8,
+            Refused::FifthSupplementalKey => 9,
+            Refused::NoPlaceForLocalSet => 10,
+            Refused::KeyInstanceChanged => 11,
+            Refused::ParametersNotUsable => 12,
+            Refused::PlaceAbove4 => 13,
+        }
+    }
+
+    /// The column "Sense key/ASC/ASCQ" of 01's table.
+    pub fn sense(self) -> Sense {
+        match self {
+            Refused::RecordNotWellFormed | Refused::NexusAbove15 | Refused::PlaceAbove4 => NO_SENSE,
+            Refused::ChangedByAnotherNexus => [0x6, 0x2A, 0x11],
+            Refused::ChangedByVendorEvent => [0x6, 0x2A, 0x12],
+            Refused::ProtocolNot20 | Refused::PageNotSupported => [0x5, 0x24, 0x00],
+            Refused::PageLengthWrong => [0x5, 0x1A, 0x00],
+            Refused::FieldWrong => [0x5, 0x26, 0x00],
+            Refused::FifthSupplementalKey => [0x5, 0x55, 0x08],
+            Refused::NoPlaceForLocalSet => [0x5, 0x55, 0x03],
+            Refused::KeyInstanceChanged => [0x7, 0x2A, 0x13],
+            Refused::ParametersNotUsable => [0x7, 0x74, 0x07],
+        }
+    }
+}
+
+/// The column "When" of 01's table, for reports.
+pub fn when(number: u8) -> &'static str {
+    match number {
+        0 => "done",
+        1 => "record not well formed",
+        2 => "nexus above 15",
+        3 => "pending: changed by another nexus",
+        4 => "pending: changed by vendor event",
+        5 => "protocol not 20h",
+        6 => "page not supported",
+        7 => "page length wrong",
+        8 => "field wrong",
+        9 => "fifth supplemental key",
+        10 => "no place for a LOCAL set",
+        11 => "key instance changed",
+        12 => "parameters not usable",
+        13 => "place argument above 4",
+        255 => "unknown kind of command",
+        _ => "not an answer of 01",
+    }
+}

@@ -1,0 +1,39 @@
+//! The codes of 01, "The Set Data Encryption page (0010h)".
+
+/// 01: "SCOPE other than 0 PUBLIC, 1 LOCAL, 2 ALL". In a set, 0 marks an empty place.
+pub mod scope {
+    pub const PUBLIC: u8 = 0;
+    pub const LOCAL: u8 = 1;
+    pub const ALL: u8 = 2;
+}
+
+/// 01: "encryption mode 0 DISABLE, 1 EXTERNAL, 2 ENCRYPT".
+pub mod encryption {
+    pub const DISABLE: u8 = 0;
+    pub const EXTERNAL: u8 = 1;
+    pub const ENCRYPT: u8 = 2;
+}
+
+/// 01: "decryption mode 0 DISABLE, 1 RAW, 2 DECRYPT, 3 MIXED".
+pub mod decryption {
+    pub const DISABLE: u8 = 0;
+    pub const RAW: u8 = 1;
+    pub const DECRYPT: u8 = 2;
+    pub const MIXED: u8 = 3;
+}
+
+/// 01: "algorithm 1".
+pub const ALGORITHM: u8 = 1;
+/// The largest value of the two bits of CEEM (01: "CEEM bits 7–6").
+pub const LARGEST_CEEM: u8 = 3;
+/// 01: "the Tape Data Encryption security protocol (20h)".
+pub const PROTOCOL: u8 = 0x20;
+
+/// The page codes 01 names.
+pub mod page_code {
+    pub const IN_SUPPORT: u16 = 0x0000;
+    pub const OUT_SUPPORT: u16 = 0x0001;
+    pub const SET_DATA_ENCRYPTION: u16 = 0x0010;
+    pub const MANAGEMENT_CAPABILITIES: u16 = 0x0012;
+    pub const STATUS: u16 = 0x0020;
+}

@@ -1,0 +1,32 @@
+//! Directed sessions: each file holds the sessions of one idea.
+
+mod buffers;
+mod byte_values;
+mod descriptors;
+mod events;
+mod examples;
+mod kinds;
+mod page_rules;
+mod pending;
+mod places;
+mod records;
+mod status;
+mod writes;
+
+use super::session::Sink;
+
+/// Every directed session.
+pub fn sessions(sink: &mut Sink) {
+    examples::sessions(sink);
+    kinds::sessions(sink);
+    buffers::sessions(sink);
+    writes::sessions(sink);
+    pending::sessions(sink);
+    places::sessions(sink);
+    events::sessions(sink);
+    descriptors::sessions(sink);
+    byte_values::sessions(sink);
+    status::sessions(sink);
+    records::sessions(sink);
+    page_rules::sessions(sink);
+}

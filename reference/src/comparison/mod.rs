@@ -1,0 +1,178 @@
+//! The comparison of the library with another drive on a pipe: replies and, after every call, the record.
+
+mod difference;
+mod directed;
+mod numbers;
+mod other_drive;
+pub mod page_builder;
+mod random;
+mod reached;
+pub mod record_builder;
+mod report;
+pub mod session;
+mod shrink;
+mod wire;
+
+use crate::stream::Drive;
+use difference::Difference;
+use other_drive::OtherDrive;
+use random::RandomSessions;
+use reached::Reached;
+use session::Session;
+use std::time::{Duration, Instant};
+
+/// The calls sent before their replies are taken.
+const BATCH: usize = 400;
+
+/// How a comparison is run.
+#[derive(Clone, Debug)]
+pub struct Settings {
+    /// The other drive's program and its arguments.
+    pub program: Vec<String>,
+    pub seed: u64,
+    /// The number of random calls.
+    pub calls: u64,
+    pub directed: bool,
+    pub random: bool,
+    /// How long a reply is waited for.
+    pub patience: Duration,
+}
+
+/// A comparison under way.
+struct Comparison<'settings> {
+    settings: &'settings Settings,
+    drive: Drive,
+    other: OtherDrive,
+    reached: Reached,
+    batch: Vec<Session>,
+    calls_in_batch: usize,
+    failure: Option<String>,
+}
+
+/// Runs a comparison and prints what it came to; whether all was equal and all was reached.
+pub fn run(settings: &Settings) -> bool {
+    println!("seed {}", settings.seed);
+    let other = match OtherDrive::start(&settings.program, settings.patience) {
+        Ok(other) => other,
+        Err(error) => {
+            println!("the other drive can't be started: {error}");
+            return false;
+        }
+    };
+    let mut comparison = Comparison {
+        settings,
+        drive: Drive::new(),
+        other,
+        reached: Reached::default(),
+        batch: Vec::new(),
+        calls_in_batch: 0,
+        failure: None,
+    };
+    let start = Instant::now();
+    if settings.directed {
+        directed::sessions(&mut |session| comparison.take(session));
+    }
+    if settings.random {
+        comparison.random_sessions();
+    }
+    comparison.exchange();
+    let time = start.elapsed();
+    comparison.end();
+    comparison.conclude(time)
+}
+
+impl Comparison<'_> {
+    /// Random sessions until the number of calls is reached.
+    fn random_sessions(&mut self) {
+        let mut sessions = RandomSessions::new(self.settings.seed);
+        let mut left = self.settings.calls;
+        while left > 0 && self.failure.is_none() {
+            let session = sessions.session(left.min(1 << 20) as usize);
+            left -= session.commands.len() as u64;
+            self.take(session);
+        }
+    }
+
+    /// Takes a session into the batch; after a difference sessions are let go.
+    fn take(&mut self, session: Session) {
+        if self.failure.is_some() {
+            return;
+        }
+        self.calls_in_batch += session.commands.len();
+        self.batch.push(session);
+        if self.calls_in_batch >= BATCH {
+            self.exchange();
+        }
+    }
+
+    /// Sends the batch and compares its replies.
+    fn exchange(&mut self) {
+        let batch = std::mem::take(&mut self.batch);
+        self.calls_in_batch = 0;
+        if self.failure.is_some() {
+            return;
+        }
+        let bytes = batch.iter().map(|session| difference::bytes_of(&session.commands)).collect::<Vec<_>>();
+        self.other.send(bytes.concat());
+        for session in &batch {
+            let found = difference::compare(
+                &session.commands,
+                &mut self.drive,
+                &mut self.other,
+                Some(&mut self.reached),
+            );
+            if let Some(difference) = found {
+                self.failure = Some(self.report(session, &batch, difference));
+                return;
+            }
+        }
+    }
+
+    /// The report of a difference, its session made short.
+    fn report(&self, session: &Session, batch: &[Session], difference: Difference) -> String {
+        let Settings { program, patience, .. } = self.settings;
+        let whole: Vec<_> = batch.iter().flat_map(|session| session.commands.clone()).collect();
+        let short = shrink::shrink(program, &session.commands, *patience)
+            .or_else(|| shrink::shrink(program, &whole, *patience));
+        match short {
+            Some(short) => report::difference_text(&session.name, &short.commands, &short.difference),
+            None => {
+                let text = report::difference_text(&session.name, &session.commands, &difference);
+                format!("(the difference doesn't come again on a fresh drive)\n{text}")
+            }
+        }
+    }
+
+    /// After the last session: the other drive says nothing more and ends; then what the stream promises.
+    fn end(&mut self) {
+        if self.failure.is_some() {
+            return;
+        }
+        match self.other.end() {
+            Ok((rest, status)) if rest.is_empty() && status.success() => {}
+            outcome => self.failure = Some(format!("DIFFERENCE at the end of input: {outcome:?}\n")),
+        }
+        self.failure = self.failure.take().or_else(|| wire::check(self.settings).err());
+    }
+
+    /// Prints the counts and the failure, if any.
+    fn conclude(&self, time: Duration) -> bool {
+        let calls = self.reached.calls;
+        if let Some(failure) = &self.failure {
+            print!("{failure}");
+            println!("seed {}, {calls} calls: FAILED", self.settings.seed);
+            return false;
+        }
+        print!("{}", self.reached.text());
+        let seconds = time.as_secs_f64();
+        println!("{calls} calls in {seconds:.1} s, {:.0} calls a second", calls as f64 / seconds);
+        let missing = self.reached.missing_text(self.settings.directed);
+        if !missing.is_empty() {
+            print!("{missing}");
+            println!("seed {}: all equal, but NOT ALL REACHED", self.settings.seed);
+            return false;
+        }
+        println!("seed {}: all equal, all reached", self.settings.seed);
+        true
+    }
+}

@@ -1,0 +1,278 @@
+//! Random sessions. A shadow drive follows along, so that pages and events fit the record they meet.
+
+use super::numbers::Numbers;
+use super::page_builder::{random_damage, random_list, set_length, status_header, Edit, SetPage};
+use super::record_builder::random_record;
+use super::session::{
+    event, event_of, load, load_bytes, power_on, read_status, security_in, security_out, vendor_release,
+    write, Session,
+};
+use crate::codes::{encryption, scope};
+use crate::record_bytes::{self, COUNTER_BYTES, NEXUS_BYTES, PLACE_BYTES};
+use crate::sizes::{KEY_BYTES, NEXUSES, PLACES};
+use crate::stream::{kind, Command, Drive};
+
+/// Makes random sessions from a seed.
+pub struct RandomSessions {
+    numbers: Numbers,
+    shadow: Drive,
+    set_edits: Vec<Edit>,
+    status_edits: Vec<Edit>,
+}
+
+impl RandomSessions {
+    /// The sessions of a seed.
+    pub fn new(seed: u64) -> Self {
+        RandomSessions {
+            numbers: Numbers::new(seed),
+            shadow: Drive::new(),
+            set_edits: Edit::of_set_page(),
+            status_edits: Edit::of_status_page(),
+        }
+    }
+
+    /// The next session, of a length up to the one named.
+    pub fn session(&mut self, longest: usize) -> Session {
+        let length = (3 + self.numbers.below(60)).min(longest.max(1));
+        let mut commands = Vec::with_capacity(length);
+        for at in 0..length {
+            let command = if at == 0 { self.start() } else { self.command() };
+            self.shadow.answer(&command);
+            commands.push(command);
+        }
+        Session { name: "random".to_string(), commands }
+    }
+
+    /// Power-on, a well-formed record, or a damaged one.
+    fn start(&mut self) -> Command {
+        match self.numbers.below(10) {
+            0..=3 => power_on(),
+            4..=8 => load(&random_record(&mut self.numbers)),
+            _ => load_bytes(self.damaged_record()),
+        }
+    }
+
+    /// Any command.
+    fn command(&mut self) -> Command {
+        let nexus = self.nexus();
+        let mut command = match self.numbers.below(100) {
+            0..=41 => self.set_page(nexus),
+            42..=53 => self.response_page(nexus),
+            54..=69 => write(nexus, self.numbers.percent(70)),
+            70..=73 => event(kind::DEMOUNT),
+            74..=77 => event_of(kind::NEXUS_RESERVATION_LOSS, self.owner(nexus)),
+            78..=80 => event(kind::DEVICE_RESERVATION_LOSS),
+            81..=84 => event_of(kind::PREEMPT, nexus),
+            85 => event(kind::MICROCODE),
+            86..=88 => vendor_release(self.numbers.pick(&[0, 1, 2, 3, 4, 4, 5, 255, 256, 65535])),
+            89 | 90 => event(kind::LOGICAL_UNIT_RESET),
+            91..=94 => self.status_page(),
+            95 => power_on(),
+            96 => load_bytes(self.damaged_record()),
+            97 | 98 => load(&random_record(&mut self.numbers)),
+            _ => event(11 + self.numbers.below(242) as u8),
+        };
+        if self.numbers.percent(10) {
+            self.fill_unread_fields(&mut command);
+        }
+        command
+    }
+
+    /// Puts something into the fields the command doesn't have (the port stays 0).
+    fn fill_unread_fields(&mut self, command: &mut Command) {
+        let has_nexus = matches!(
+            command.kind,
+            kind::IN | kind::OUT | kind::WRITE | kind::NEXUS_RESERVATION_LOSS | kind::PREEMPT
+        );
+        if !has_nexus {
+            command.nexus = self.numbers.byte();
+        }
+        if !matches!(command.kind, kind::IN | kind::OUT | kind::WRITE | kind::VENDOR_RELEASE) {
+            command.argument = self.numbers.next() as u16;
+        }
+        if !matches!(command.kind, kind::IN | kind::OUT) {
+            command.protocol = self.numbers.byte();
+        }
+        if command.kind != kind::IN && !Command::has_data(command.kind) {
+            command.length = self.numbers.next() as u16;
+        }
+    }
+
+    /// Mostly one of a few nexuses, so that they meet.
+    fn nexus(&mut self) -> u8 {
+        match self.numbers.below(100) {
+            0..=79 => self.numbers.below(6) as u8,
+            80..=97 => self.numbers.below(NEXUSES) as u8,
+            _ => self.numbers.pick(&[16, 17, 127, 128, 255]),
+        }
+    }
+
+    /// An owner of a used place half the time.
+    fn owner(&mut self, nexus: u8) -> u8 {
+        let place = self.numbers.below(PLACES);
+        let set = &self.shadow.controller().record.places[place];
+        if set.is_used() && self.numbers.percent(50) {
+            set.owner
+        } else {
+            nexus
+        }
+    }
+
+    /// Mostly protocol 20h.
+    fn protocol(&mut self, command: Command) -> Command {
+        if self.numbers.percent(4) {
+            let protocol = self.numbers.pick(&[0, 1, 0x1F, 0x21, 0xA0, 0xFF]);
+            return Command { protocol, ..command };
+        }
+        command
+    }
+
+    /// IN of any page.
+    fn response_page(&mut self, nexus: u8) -> Command {
+        let code = match self.numbers.below(10) {
+            0..=5 => 0x0020,
+            6 => 0x0000,
+            7 => 0x0001,
+            8 => 0x0012,
+            _ => self.numbers.pick(&[0x0002, 0x0010, 0x0011, 0x0013, 0x0021, 0x0120, 0x2000, 0xFFFF]),
+        };
+        let size = self.numbers.below(90) as u16;
+        let command = security_in(nexus, code, size);
+        self.protocol(command)
+    }
+
+    /// OUT of a page, mostly in order.
+    fn set_page(&mut self, nexus: u8) -> Command {
+        let mut page = match self.numbers.below(10) {
+            0..=6 => self.parameters(),
+            7 | 8 => self.supplemental(nexus),
+            _ => SetPage { key: Vec::new(), ..SetPage::public(self.numbers.percent(50)) },
+        };
+        if self.numbers.percent(3) {
+            let length = self.numbers.pick(&[0, 1, 31, 33, 64]);
+            page.key = self.numbers.bytes(length);
+        }
+        let mut bytes = page.bytes();
+        if page.scope == scope::PUBLIC && self.numbers.percent(50) {
+            let length = 20 + self.numbers.below(110);
+            bytes.resize(length, 0);
+            let filling = self.numbers.bytes(length - 5);
+            bytes[5..].copy_from_slice(&filling);
+            bytes[4] |= self.numbers.byte() & 0x1F;
+            set_length(&mut bytes);
+        }
+        if self.numbers.percent(20) {
+            for _ in 0..1 + self.numbers.below(3) {
+                random_damage(&mut bytes, &self.set_edits, 20 + page.key.len(), &mut self.numbers);
+            }
+        }
+        let mut command = security_out(nexus, bytes);
+        if self.numbers.percent(3) {
+            command.argument = self.numbers.pick(&[0x0000, 0x0011, 0x0020, 0x1000, 0x0110, 0xFFFF]);
+        }
+        self.protocol(command)
+    }
+
+    /// The parameters of a new set.
+    fn parameters(&mut self) -> SetPage {
+        let numbers = &mut self.numbers;
+        let encryption = numbers.pick(&[0, 1, 2, 2, 2]);
+        let decryption = numbers.below(4) as u8;
+        let encrypts = encryption == encryption::ENCRYPT;
+        let key = if encrypts || decryption >= 2 { numbers.bytes(KEY_BYTES) } else { Vec::new() };
+        SetPage {
+            scope: numbers.pick(&[scope::LOCAL, scope::LOCAL, scope::LOCAL, scope::ALL]),
+            lock: numbers.percent(50),
+            ceem: numbers.below(4) as u8,
+            rdmc: if encrypts { numbers.pick(&[0, 2, 3, 3]) } else { numbers.below(4) as u8 },
+            sdk: false,
+            ckod: numbers.percent(50),
+            ckorp: numbers.percent(50),
+            ckorl: numbers.percent(50),
+            encryption,
+            decryption,
+            key,
+            list: if encrypts { random_list(numbers) } else { Vec::new() },
+        }
+    }
+
+    /// A supplemental key, mostly with the sender's scope and its set's mode.
+    fn supplemental(&mut self, nexus: u8) -> SetPage {
+        let record = &self.shadow.controller().record;
+        let sender = usize::from(nexus) % NEXUSES;
+        let mut scope = record.nexuses[sender].scope & 3;
+        let mut decryption = record.selected_set(sender).decryption;
+        if scope == scope::PUBLIC || self.numbers.percent(5) {
+            scope = self.numbers.pick(&[scope::LOCAL, scope::ALL]);
+        }
+        if self.numbers.percent(10) {
+            decryption = self.numbers.below(4) as u8;
+        }
+        let mut page = self.parameters();
+        page.scope = scope;
+        page.sdk = true;
+        page.decryption = decryption;
+        page.rdmc = self.numbers.below(4) as u8;
+        page.encryption = self.numbers.byte();
+        page.key = self.numbers.bytes(KEY_BYTES);
+        page.list = Vec::new();
+        page
+    }
+
+    /// A status page, mostly in order.
+    fn status_page(&mut self) -> Command {
+        let numbers = &mut self.numbers;
+        let mut page = status_header();
+        page[4] = numbers.pick(&[0, 1, 2]) << 5 | numbers.pick(&[0, 1, 2]);
+        page[5] = numbers.below(3) as u8;
+        page[6] = numbers.below(4) as u8;
+        page[7] = numbers.below(2) as u8;
+        page[8..12].copy_from_slice(&(numbers.next() as u32).to_be_bytes());
+        page[12] = numbers.below(8) as u8;
+        page.extend(random_list(numbers));
+        set_length(&mut page);
+        if numbers.percent(50) {
+            for _ in 0..1 + numbers.below(2) {
+                random_damage(&mut page, &self.status_edits, 24, numbers);
+            }
+        }
+        read_status(page)
+    }
+
+    /// A well-formed record with a place copied to another, or with one to three bytes changed, mostly those of
+    /// codes, owners, lengths and marks.
+    fn damaged_record(&mut self) -> Vec<u8> {
+        let numbers = &mut self.numbers;
+        let mut record = random_record(numbers);
+        if numbers.percent(10) {
+            let (from, to) = (1 + numbers.below(PLACES - 1), 1 + numbers.below(PLACES - 1));
+            record.places[to] = record.places[from].clone();
+            return record_bytes::give(&record);
+        }
+        let mut bytes = record_bytes::give(&record);
+        for _ in 0..numbers.pick(&[1, 1, 1, 1, 2, 3]) {
+            let at = match numbers.below(4) {
+                0 | 1 => {
+                    let place = numbers.pick(&[0, 0, 0, 1, 2, 3, 4]);
+                    let field = numbers.pick(&[0, 0, 1, 1, 2, 3, 4, 9, 10, 13, 46, 175, 208]);
+                    COUNTER_BYTES + place * PLACE_BYTES + field
+                }
+                2 => {
+                    let nexuses = COUNTER_BYTES + PLACES * PLACE_BYTES;
+                    nexuses + numbers.below(NEXUSES) * NEXUS_BYTES + numbers.pick(&[0, 0, 0, 1, 10, 11, 12])
+                }
+                _ => numbers.below(bytes.len()),
+            };
+            bytes[at] = match numbers.below(4) {
+                0 => numbers.byte(),
+                1 => bytes[at].wrapping_add(1),
+                _ => numbers.pick(&[0, 0, 0, 1, 1, 2, 2, 3, 4, 5, 13, 16, 33, 255]),
+            };
+        }
+        if numbers.percent(3) {
+            let length = numbers.below(2 * bytes.len());
+            bytes.resize(length, 0);
+        }
+        bytes
+    }
+}

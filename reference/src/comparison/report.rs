@@ -1,0 +1,205 @@
+//! What is printed about a difference: the short session, both replies, the reference's account.
+
+use super::difference::{Difference, What};
+use super::other_drive::Trouble;
+use crate::account::Account;
+use crate::answer::when;
+use crate::record_bytes::{field_name, RECORD_BYTES};
+use crate::stream::{kind, Command, Drive, Reply};
+use std::fmt::Write;
+
+/// The name of a kind of command.
+pub fn kind_name(kind: u8) -> &'static str {
+    match kind {
+        kind::POWER_ON => "power-on",
+        kind::IN => "IN",
+        kind::OUT => "OUT",
+        kind::WRITE => "write",
+        kind::LOGICAL_UNIT_RESET => "logical unit reset",
+        kind::DEMOUNT => "demount",
+        kind::NEXUS_RESERVATION_LOSS => "nexus reservation loss",
+        kind::DEVICE_RESERVATION_LOSS => "device reservation loss",
+        kind::PREEMPT => "preempt",
+        kind::MICROCODE => "microcode",
+        kind::VENDOR_RELEASE => "vendor release",
+        kind::READ_STATUS => "status reader (253)",
+        kind::LOAD_RECORD => "load record (254)",
+        kind::GIVE_RECORD => "give record (255)",
+        _ => "unknown kind",
+    }
+}
+
+/// Bytes in rows of 16; a run of zeros to the end is told by its length.
+fn rows(bytes: &[u8]) -> String {
+    let end = bytes.iter().rposition(|&byte| byte != 0).map_or(0, |last| last + 1);
+    let zeros = bytes.len() - end;
+    let end = if zeros > 16 { end } else { bytes.len() };
+    let mut text = String::new();
+    for (row, part) in bytes[..end].chunks(16).enumerate() {
+        let part: Vec<String> = part.iter().map(|byte| format!("{byte:02X}")).collect();
+        let _ = writeln!(text, "        {:4}: {}", row * 16, part.join(" "));
+    }
+    if end < bytes.len() {
+        let _ = writeln!(text, "        {:4}: {} zeros", end, bytes.len() - end);
+    }
+    text
+}
+
+/// A command in words.
+fn command_text(command: &Command) -> String {
+    let mut text = kind_name(command.kind).to_string();
+    let _ = match command.kind {
+        kind::IN => write!(
+            text,
+            ", nexus {}, protocol {:02X}h, page {:04X}h, lent buffer of {}",
+            command.nexus, command.protocol, command.argument, command.length
+        ),
+        kind::OUT => write!(
+            text,
+            ", nexus {}, protocol {:02X}h, page {:04X}h, {} bytes",
+            command.nexus,
+            command.protocol,
+            command.argument,
+            command.data.len()
+        ),
+        kind::WRITE => write!(text, ", nexus {}, support flag {}", command.nexus, command.argument),
+        kind::READ_STATUS => write!(text, ", {} bytes", command.data.len()),
+        kind::LOAD_RECORD => return load_text(command),
+        _ => {
+            let mut header = Vec::new();
+            command.give(&mut header);
+            write!(text, ", nexus {}, argument {} (bytes {header:02X?})", command.nexus, command.argument)
+        }
+    };
+    text.push('\n');
+    text + &rows(&command.data)
+}
+
+/// A loaded record in words: its fields that aren't zero.
+fn load_text(command: &Command) -> String {
+    if command.data.len() != RECORD_BYTES {
+        return format!("load record (254), {} bytes\n", command.data.len());
+    }
+    let mut text = "load record (254), zero but for:\n".to_string();
+    for (name, bytes) in fields(&command.data) {
+        if bytes.iter().any(|&byte| byte != 0) {
+            let _ = writeln!(text, "        {name}: {bytes:02X?}");
+        }
+    }
+    text
+}
+
+/// A record's bytes by field.
+fn fields(record: &[u8]) -> Vec<(String, Vec<u8>)> {
+    let mut fields: Vec<(String, Vec<u8>)> = Vec::new();
+    for (offset, &byte) in record.iter().enumerate() {
+        let name = field_name(offset);
+        match fields.last_mut() {
+            Some((last, bytes)) if *last == name => bytes.push(byte),
+            _ => fields.push((name, vec![byte])),
+        }
+    }
+    fields
+}
+
+/// A reply in words.
+fn reply_text(reply: &Reply) -> String {
+    let [key, code, qualifier] = reply.sense;
+    format!(
+        "answer {} ({}), sense {key:X}/{code:02X}/{qualifier:02X}, {} bytes\n{}",
+        reply.number,
+        when(reply.number),
+        reply.data.len(),
+        rows(&reply.data)
+    )
+}
+
+/// What stands in place of a reply.
+fn trouble_text(trouble: &Trouble) -> String {
+    match trouble {
+        Trouble::Ended { bytes } => format!("its output ended after {bytes} bytes of the reply\n"),
+        Trouble::Silent { bytes } => format!("nothing more in time after {bytes} bytes of the reply\n"),
+    }
+}
+
+/// The fields in which two records differ.
+fn record_text(reference: &Reply, other: &Reply) -> String {
+    if other.number != reference.number || other.data.len() != reference.data.len() {
+        return format!("    reference: {}    other: {}", reply_text(reference), reply_text(other));
+    }
+    let mut text = String::new();
+    for ((name, reference), (_, other)) in fields(&reference.data).into_iter().zip(fields(&other.data)) {
+        if reference != other {
+            let _ = writeln!(text, "    {name}: reference {reference:02X?}, other {other:02X?}");
+        }
+    }
+    text
+}
+
+/// The reference's account of a call.
+pub fn account_text(account: &Account) -> String {
+    let mut text = String::new();
+    for clause in &account.clauses {
+        let _ = writeln!(text, "    the record isn't well formed: {clause:?} is broken");
+    }
+    for broken in &account.page_rules {
+        let byte = broken.byte.map_or("no byte".to_string(), |byte| format!("byte {byte}"));
+        let _ = writeln!(text, "    the page breaks {:?} ({byte})", broken.rule);
+    }
+    for rule in &account.status_rules {
+        let _ = writeln!(text, "    the status page breaks {rule:?}");
+    }
+    for step in &account.steps {
+        let _ = writeln!(text, "    {step}");
+    }
+    if text.is_empty() {
+        text.push_str("    no rule to name\n");
+    }
+    text
+}
+
+/// The whole report of a difference.
+pub fn difference_text(name: &str, commands: &[Command], difference: &Difference) -> String {
+    let mut text = format!("DIFFERENCE in \"{name}\"; short session of {} commands:\n", commands.len());
+    let mut drive = Drive::new();
+    for (number, command) in commands.iter().enumerate() {
+        let reply = drive.answer(command);
+        let _ = write!(text, "  {number}. {}", command_text(command));
+        if number != difference.command {
+            let _ = writeln!(text, "      both answer {} ({})", reply.number, when(reply.number));
+        }
+    }
+    let _ = match &difference.what {
+        What::Reply { other } => write!(
+            text,
+            "the replies to command {} differ:\n    reference: {}    other: {}",
+            difference.command,
+            reply_text(&difference.reply),
+            reply_text(other)
+        ),
+        What::Record { other } => write!(
+            text,
+            "both replies to command {} are: {}the records after it differ:\n{}",
+            difference.command,
+            reply_text(&difference.reply),
+            record_text(&difference.record, other)
+        ),
+        What::NoReply(trouble) => write!(
+            text,
+            "command {} has no reply:\n    reference: {}    other: {}",
+            difference.command,
+            reply_text(&difference.reply),
+            trouble_text(trouble)
+        ),
+        What::NoRecord(trouble) => {
+            write!(text, "no record after command {}: {}", difference.command, trouble_text(trouble))
+        }
+    };
+    let _ = write!(
+        text,
+        "by the reference's account of command {}:\n{}",
+        difference.command,
+        account_text(&difference.account)
+    );
+    text
+}

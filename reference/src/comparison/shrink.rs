@@ -1,0 +1,162 @@
+//! A session with a difference, made short: commands are dropped, then pages shortened and bytes zeroed.
+
+use super::difference::{compare_fresh, Difference};
+use super::page_builder::set_length;
+use crate::stream::{kind, Command};
+use std::time::{Duration, Instant};
+
+/// The most sessions tried and the longest time taken.
+const TRIES: usize = 4000;
+const TIME: Duration = Duration::from_secs(90);
+
+/// A short session and its difference.
+pub struct Short {
+    pub commands: Vec<Command>,
+    pub difference: Difference,
+}
+
+/// Tries sessions on fresh drives of the other program and keeps the last one with a difference.
+struct Shrinker<'parts> {
+    program: &'parts [String],
+    patience: Duration,
+    tries: usize,
+    end: Instant,
+    short: Short,
+}
+
+/// Makes a session short; nothing if it has no difference on a fresh drive.
+pub fn shrink(program: &[String], commands: &[Command], patience: Duration) -> Option<Short> {
+    let difference = compare_fresh(program, commands, patience)?;
+    let commands = commands[..=difference.command].to_vec();
+    let mut shrinker = Shrinker {
+        program,
+        patience: patience.min(Duration::from_secs(2)),
+        tries: TRIES,
+        end: Instant::now() + TIME,
+        short: Short { commands, difference },
+    };
+    shrinker.drop_commands();
+    for number in 0..shrinker.short.commands.len() {
+        shrinker.shorten_page(number);
+        shrinker.zero_data(number);
+        shrinker.lessen_lent_buffer(number);
+    }
+    shrinker.drop_commands();
+    Some(shrinker.short)
+}
+
+impl Shrinker<'_> {
+    /// Keeps a session if it has a difference, up to that. It has to start from a known record.
+    fn keep(&mut self, mut commands: Vec<Command>) -> bool {
+        let start = commands.first().map(|command| command.kind);
+        if !matches!(start, Some(kind::POWER_ON | kind::LOAD_RECORD)) {
+            return false;
+        }
+        if self.tries == 0 || Instant::now() >= self.end {
+            return false;
+        }
+        self.tries -= 1;
+        match compare_fresh(self.program, &commands, self.patience) {
+            None => false,
+            Some(difference) => {
+                commands.truncate(difference.command + 1);
+                self.short = Short { commands, difference };
+                true
+            }
+        }
+    }
+
+    /// Drops runs of commands, long runs first.
+    fn drop_commands(&mut self) {
+        let mut run = self.short.commands.len() / 2;
+        while run > 0 {
+            let mut start = 0;
+            while start + run <= self.short.commands.len() {
+                let mut commands = self.short.commands.clone();
+                commands.drain(start..start + run);
+                if !self.keep(commands) {
+                    start += run;
+                }
+            }
+            run /= 2;
+        }
+    }
+
+    /// Keeps the session with one command changed, if it still has a difference.
+    fn keep_with(&mut self, number: usize, command: Command) -> bool {
+        let Some(present) = self.short.commands.get(number) else { return false };
+        if *present == command {
+            return false;
+        }
+        let mut commands = self.short.commands.clone();
+        commands[number] = command;
+        self.keep(commands)
+    }
+
+    /// Cuts the data of OUT and of the status reader, the page's length as it was or made right.
+    fn shorten_page(&mut self, number: usize) {
+        let mut cut = match self.short.commands.get(number) {
+            Some(command) if matches!(command.kind, kind::OUT | kind::READ_STATUS) => command.data.len(),
+            _ => return,
+        };
+        while cut > 0 {
+            let Some(command) = self.short.commands.get(number) else { return };
+            if cut > command.data.len() || !self.cut_page(number, command.clone(), cut) {
+                cut /= 2;
+            }
+        }
+    }
+
+    /// Cuts so many bytes off a page's end, or from its middle after the first 20.
+    fn cut_page(&mut self, number: usize, command: Command, cut: usize) -> bool {
+        let left = command.data.len() - cut;
+        let mut shapes = vec![command.data[..left].to_vec()];
+        if left >= 20 {
+            shapes.push([&command.data[..20], &command.data[20 + cut..]].concat());
+        }
+        for data in shapes {
+            let mut right = data.clone();
+            set_length(&mut right);
+            for data in [right, data] {
+                let length = data.len() as u16;
+                if self.keep_with(number, Command { data, length, ..command.clone() }) {
+                    return true;
+                }
+            }
+        }
+        false
+    }
+
+    /// Zeroes runs of data bytes, long runs first.
+    fn zero_data(&mut self, number: usize) {
+        let Some(command) = self.short.commands.get(number) else { return };
+        let size = command.data.len();
+        let mut run = size.next_power_of_two();
+        while run > 0 {
+            for start in (0..size).step_by(run) {
+                let Some(command) = self.short.commands.get(number) else { return };
+                let mut command = command.clone();
+                let stop = (start + run).min(size);
+                if command.data[start..stop].iter().any(|&byte| byte != 0) {
+                    command.data[start..stop].fill(0);
+                    self.keep_with(number, command);
+                }
+            }
+            run /= 2;
+        }
+    }
+
+    /// Makes the lent buffer of IN smaller.
+    fn lessen_lent_buffer(&mut self, number: usize) {
+        let Some(command) = self.short.commands.get(number) else { return };
+        if command.kind != kind::IN {
+            return;
+        }
+        let command = command.clone();
+        for length in 0..command.length.min(128) {
+            if self.keep_with(number, Command { length, ..command.clone() }) {
+                return;
+            }
+        }
+    }
+}

@@ -1,0 +1,273 @@
+//! The stream of design.md, "The second account, and the drive on a pipe": commands and replies.
+
+use crate::account::Account;
+use crate::answer::{Refused, Sense, NO_SENSE};
+use crate::calls::{Written, WrittenAs};
+use crate::controller::Controller;
+use crate::record_bytes;
+use crate::status_page::{self, Status};
+use std::io::{self, Read, Write};
+
+/// The kinds of command.
+pub mod kind {
+    pub const POWER_ON: u8 = 0;
+    pub const IN: u8 = 1;
+    pub const OUT: u8 = 2;
+    pub const WRITE: u8 = 3;
+    pub const LOGICAL_UNIT_RESET: u8 = 4;
+    pub const DEMOUNT: u8 = 5;
+    pub const NEXUS_RESERVATION_LOSS: u8 = 6;
+    pub const DEVICE_RESERVATION_LOSS: u8 = 7;
+    pub const PREEMPT: u8 = 8;
+    pub const MICROCODE: u8 = 9;
+    pub const VENDOR_RELEASE: u8 = 10;
+    pub const READ_STATUS: u8 = 253;
+    pub const LOAD_RECORD: u8 = 254;
+    pub const GIVE_RECORD: u8 = 255;
+}
+
+/// "An unknown kind is answered 255 with no sense".
+pub const UNKNOWN_KIND: u8 = 255;
+/// "the lent buffer whole, which the console fills with A5h before the call".
+pub const LENT_FILL: u8 = 0xA5;
+/// "L the size of the lent buffer (at most 4,096)".
+pub const LENT_LIMIT: usize = 4096;
+/// "Command: 8 bytes".
+pub const COMMAND_BYTES: usize = 8;
+/// The reply's answer number, sense and length M.
+pub const REPLY_BYTES: usize = 6;
+
+/// "Command: 8 bytes: kind, nexus, argument (2), protocol, port ..., length L (2); then L data bytes for kinds
+/// 2, 253 and 254."
+#[derive(Clone, PartialEq, Eq, Debug)]
+pub struct Command {
+    pub kind: u8,
+    pub nexus: u8,
+    pub argument: u16,
+    pub protocol: u8,
+    pub port: u8,
+    pub length: u16,
+    pub data: Vec<u8>,
+}
+
+impl Command {
+    /// Whether L data bytes follow the eight.
+    pub fn has_data(kind: u8) -> bool {
+        matches!(kind, kind::OUT | kind::READ_STATUS | kind::LOAD_RECORD)
+    }
+
+    /// The command's bytes.
+    pub fn give(&self, bytes: &mut Vec<u8>) {
+        bytes.extend([self.kind, self.nexus]);
+        bytes.extend(self.argument.to_be_bytes());
+        bytes.extend([self.protocol, self.port]);
+        bytes.extend(self.length.to_be_bytes());
+        bytes.extend(&self.data);
+    }
+
+    /// Reads a command; nothing at the end of input ("a part command is ignored").
+    pub fn read(input: &mut impl Read) -> io::Result<Option<Command>> {
+        let mut header = [0; COMMAND_BYTES];
+        if !read_whole(input, &mut header)? {
+            return Ok(None);
+        }
+        let length = u16::from_be_bytes([header[6], header[7]]);
+        let mut data = vec![0; if Command::has_data(header[0]) { usize::from(length) } else { 0 }];
+        if !read_whole(input, &mut data)? {
+            return Ok(None);
+        }
+        Ok(Some(Command {
+            kind: header[0],
+            nexus: header[1],
+            argument: u16::from_be_bytes([header[2], header[3]]),
+            protocol: header[4],
+            port: header[5],
+            length,
+            data,
+        }))
+    }
+}
+
+/// Fills the bytes, or tells that the input ended before.
+fn read_whole(input: &mut impl Read, bytes: &mut [u8]) -> io::Result<bool> {
+    match input.read_exact(bytes) {
+        Ok(()) => Ok(true),
+        Err(error) if error.kind() == io::ErrorKind::UnexpectedEof => Ok(false),
+        Err(error) => Err(error),
+    }
+}
+
+/// "Reply: answer number, sense key, ASC, ASCQ, length M (2), M bytes."
+#[derive(Clone, PartialEq, Eq, Debug)]
+pub struct Reply {
+    pub number: u8,
+    pub sense: Sense,
+    pub data: Vec<u8>,
+}
+
+impl Reply {
+    /// "An unknown kind is answered 255 with no sense": so are a lent buffer above the limit and a support flag
+    /// that is neither 0 nor 1.
+    fn unknown() -> Reply {
+        Reply { number: UNKNOWN_KIND, sense: NO_SENSE, data: Vec::new() }
+    }
+
+    /// Answer 0, with data.
+    fn done(data: Vec<u8>) -> Reply {
+        Reply { number: 0, sense: NO_SENSE, data }
+    }
+
+    /// 01: "A refused answer carries its number and sense only."
+    fn refused(refused: Refused) -> Reply {
+        Reply { number: refused.number(), sense: refused.sense(), data: Vec::new() }
+    }
+
+    /// The reply's bytes.
+    pub fn give(&self, bytes: &mut Vec<u8>) {
+        bytes.push(self.number);
+        bytes.extend(self.sense);
+        bytes.extend((self.data.len() as u16).to_be_bytes());
+        bytes.extend(&self.data);
+    }
+}
+
+/// The drive on a pipe: the controller behind the stream.
+pub struct Drive {
+    controller: Controller,
+}
+
+impl Default for Drive {
+    fn default() -> Self {
+        Drive::new()
+    }
+}
+
+impl Drive {
+    /// A drive that starts as after power-on.
+    pub fn new() -> Drive {
+        Drive { controller: Controller::power_on() }
+    }
+
+    /// The controller behind the stream.
+    pub fn controller(&self) -> &Controller {
+        &self.controller
+    }
+
+    /// The account of the last command.
+    pub fn account(&self) -> &Account {
+        &self.controller.account
+    }
+
+    /// The answer to one command.
+    pub fn answer(&mut self, command: &Command) -> Reply {
+        self.controller.account = Account::default();
+        let controller = &mut self.controller;
+        match command.kind {
+            kind::POWER_ON => {
+                *controller = Controller::power_on();
+                Reply::done(Vec::new())
+            }
+            kind::IN if usize::from(command.length) > LENT_LIMIT => Reply::unknown(),
+            kind::IN => self.security_in(command),
+            kind::OUT => plain(controller.security_out(
+                command.nexus,
+                command.protocol,
+                command.argument,
+                &command.data,
+            )),
+            kind::WRITE if command.argument > 1 => Reply::unknown(),
+            kind::WRITE => {
+                controller.write(command.nexus, command.argument != 0).map_or_else(Reply::refused, written)
+            }
+            kind::LOGICAL_UNIT_RESET => plain(controller.logical_unit_reset()),
+            kind::DEMOUNT => plain(controller.demount()),
+            kind::NEXUS_RESERVATION_LOSS => plain(controller.nexus_reservation_loss(command.nexus)),
+            kind::DEVICE_RESERVATION_LOSS => plain(controller.device_reservation_loss()),
+            kind::PREEMPT => plain(controller.preempt(command.nexus)),
+            kind::MICROCODE => plain(controller.microcode()),
+            kind::VENDOR_RELEASE => plain(controller.vendor_release(command.argument)),
+            kind::READ_STATUS => self.read_status(&command.data),
+            kind::LOAD_RECORD => self.load_record(&command.data),
+            kind::GIVE_RECORD => Reply::done(record_bytes::give(&controller.record)),
+            _ => Reply::unknown(),
+        }
+    }
+
+    /// "IN: the page's full length (2; 0 if refused), then the lent buffer whole".
+    fn security_in(&mut self, command: &Command) -> Reply {
+        let mut lent = vec![LENT_FILL; usize::from(command.length)];
+        let outcome =
+            self.controller.security_in(command.nexus, command.protocol, command.argument, &mut lent);
+        let (mut reply, length) = match outcome {
+            Ok(length) => (Reply::done(Vec::new()), length as u16),
+            Err(refused) => (Reply::refused(refused), 0),
+        };
+        reply.data.extend(length.to_be_bytes());
+        reply.data.extend(lent);
+        reply
+    }
+
+    /// "253 reads a status page with the status reader."
+    fn read_status(&mut self, page: &[u8]) -> Reply {
+        match status_page::read(page) {
+            Ok(status) => Reply::done(status_bytes(&status)),
+            Err(fault) => {
+                self.controller.account.status_rules = fault.broken;
+                Reply::refused(fault.answer)
+            }
+        }
+    }
+
+    /// "254 takes data as the device record from here on"; "a yes/no byte above 1 in a record, or one of another
+    /// length, is answered 1 and the record stays".
+    fn load_record(&mut self, bytes: &[u8]) -> Reply {
+        match record_bytes::load(bytes) {
+            Some(record) => {
+                self.controller.record = record;
+                Reply::done(Vec::new())
+            }
+            None => Reply::refused(Refused::RecordNotWellFormed),
+        }
+    }
+}
+
+/// The reply to a call that gives nothing but its answer.
+fn plain(outcome: Result<(), Refused>) -> Reply {
+    outcome.map_or_else(Reply::refused, |()| Reply::done(Vec::new()))
+}
+
+/// "Write done: 0 clear, 1 external, 2 encrypted; place; index."
+fn written(written: Written) -> Reply {
+    let as_what = match written.as_what {
+        WrittenAs::Clear => 0,
+        WrittenAs::External => 1,
+        WrittenAs::Encrypted => 2,
+    };
+    Reply::done(vec![as_what, written.place as u8, written.index])
+}
+
+/// "253 done: nexus scope, set scope, encryption, decryption, index, number (4), CEEMS, RDMD, U-KAD length,
+/// 32 bytes, A-KAD length, 12 bytes."
+fn status_bytes(status: &Status) -> Vec<u8> {
+    let mut bytes =
+        vec![status.nexus_scope, status.set_scope, status.encryption, status.decryption, status.index];
+    bytes.extend(status.number.to_be_bytes());
+    bytes.extend([status.ceems, u8::from(status.rdmd)]);
+    bytes.push(status.u_kad.length);
+    bytes.extend(status.u_kad.bytes);
+    bytes.push(status.a_kad.length);
+    bytes.extend(status.a_kad.bytes);
+    bytes
+}
+
+/// Answers commands until the input ends. "A command is answered before the next is read."
+pub fn serve(drive: &mut Drive, input: &mut impl Read, output: &mut impl Write) -> io::Result<()> {
+    let mut bytes = Vec::new();
+    while let Some(command) = Command::read(input)? {
+        bytes.clear();
+        drive.answer(&command).give(&mut bytes);
+        output.write_all(&bytes)?;
+        output.flush()?;
+    }
+    Ok(())
+}

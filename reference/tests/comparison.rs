@@ -1,0 +1,288 @@
+//! The comparison program against the reference drive, and against drives with a fault. The faulty drive is
+//! this program itself, started with `--fault NAME`; it answers by the library and then spoils the answer or
+//! the record.
+
+#![forbid(unsafe_code)]
+
+use reference::codes::scope;
+use reference::record::Record;
+use reference::record_bytes;
+use reference::stream::{kind, Command, Drive, Reply};
+use std::io::{self, Write};
+use std::process::{Command as Program, ExitCode};
+
+/// What a fault sees and spoils: the command, the record before it, the reply, and the record after it.
+struct Moment<'parts> {
+    command: &'parts Command,
+    before: &'parts Record,
+    reply: &'parts mut Reply,
+    after: &'parts mut Record,
+}
+
+/// A name, what the fault does, and the longest short session it may leave.
+type Fault = (&'static str, fn(&mut Moment), usize);
+
+/// Faults, among them 01's "Errors that look right".
+const FAULTS: [Fault; 18] = [
+    ("counting-per-place", counting_per_place, 5),
+    ("every-mode-encrypted", every_mode_encrypted, 4),
+    ("registering-after-success", registering_after_success, 3),
+    ("unlocking-at-release", unlocking_at_release, 4),
+    ("checking-public-reserved", checking_public_reserved, 3),
+    ("flag-for-sender", flag_for_sender, 4),
+    ("no-wrap", no_wrap, 4),
+    ("keeps-supplemental-keys", keeps_supplemental_keys, 5),
+    ("highest-unlocked-place", highest_unlocked_place, 6),
+    ("pending-carried-out", pending_swallowed, 4),
+    ("status-takes-control-bits", status_takes_control_bits, 3),
+    ("reads-beyond-buffer", fills_whole_buffer, 3),
+    ("sense-of-9", sense_of_9, 7),
+    ("load-keeps-lock", load_keeps_lock, 3),
+    ("number-alone-flags", number_alone_flags, 4),
+    ("rdmc-under-external", rdmc_under_external, 3),
+    ("ends-at-microcode", ends_at_microcode, 3),
+    ("hangs-at-preempt", hangs_at_preempt, 3),
+];
+
+/// A released place takes its own number plus one.
+fn counting_per_place(moment: &mut Moment) {
+    for (before, after) in moment.before.places.iter().zip(&mut moment.after.places) {
+        if before.is_used() && !after.is_used() && moment.command.kind == kind::DEMOUNT {
+            after.number = before.number.wrapping_add(1);
+        }
+    }
+}
+
+/// Every mode but DISABLE is called encrypted.
+fn every_mode_encrypted(moment: &mut Moment) {
+    if moment.command.kind == kind::WRITE && moment.reply.number == 0 && moment.reply.data[0] == 1 {
+        moment.reply.data[0] = 2;
+    }
+}
+
+/// A refused page registers nobody.
+fn registering_after_success(moment: &mut Moment) {
+    if matches!(moment.reply.number, 6..=10) && matches!(moment.command.kind, kind::IN | kind::OUT) {
+        *moment.after = moment.before.clone();
+    }
+}
+
+/// A nexus loses its lock with its set.
+fn unlocking_at_release(moment: &mut Moment) {
+    for (before, after) in moment.before.nexuses.iter().zip(&mut moment.after.nexuses) {
+        let released = before.scope != scope::PUBLIC && after.scope == scope::PUBLIC;
+        if released && matches!(moment.command.kind, kind::DEMOUNT..=kind::VENDOR_RELEASE) {
+            after.lock = false;
+        }
+    }
+}
+
+/// A PUBLIC page's reserved bytes are checked.
+fn checking_public_reserved(moment: &mut Moment) {
+    let page = &moment.command.data;
+    if moment.command.kind == kind::OUT
+        && moment.reply.number == 0
+        && page[4] >> 5 == 0
+        && page[11..18].iter().any(|&byte| byte != 0)
+    {
+        moment.reply.number = 8;
+        moment.reply.sense = [5, 0x26, 0];
+    }
+}
+
+/// The preemptor is flagged too.
+fn flag_for_sender(moment: &mut Moment) {
+    if moment.command.kind == kind::PREEMPT && moment.reply.number == 0 {
+        let nexus = usize::from(moment.command.nexus);
+        let changed = moment.before.selected_place(nexus) != moment.after.selected_place(nexus);
+        if changed && moment.before.nexuses[nexus].registered {
+            moment.after.nexuses[nexus].changed_by_another_nexus = true;
+        }
+    }
+}
+
+/// The counter stays at its largest value.
+fn no_wrap(moment: &mut Moment) {
+    if moment.after.counter < moment.before.counter && moment.command.kind == kind::OUT {
+        moment.after.counter = u32::MAX;
+    }
+}
+
+/// A set that is replaced keeps its supplemental keys.
+fn keeps_supplemental_keys(moment: &mut Moment) {
+    let page = &moment.command.data;
+    if moment.command.kind == kind::OUT && moment.reply.number == 0 && page[5] & 8 == 0 {
+        for (before, after) in moment.before.places.iter().zip(&mut moment.after.places) {
+            if after.is_used() && before.is_used() && before.owner == after.owner {
+                after.supplemental_count = before.supplemental_count;
+                after.supplemental_keys = before.supplemental_keys;
+            }
+        }
+    }
+}
+
+/// A LOCAL set goes to the highest place whose owner has lock 0.
+fn highest_unlocked_place(moment: &mut Moment) {
+    let changed = (1..5).find(|&place| {
+        moment.before.places[place].is_used()
+            && moment.before.places[place].owner != moment.after.places[place].owner
+    });
+    let (Some(place), kind::OUT) = (changed, moment.command.kind) else { return };
+    let unlocked = |&place: &usize| {
+        let owner = usize::from(moment.before.places[place].owner);
+        moment.before.places[place].is_used() && !moment.before.nexuses[owner].lock
+    };
+    if let Some(highest) = (place + 1..5).rev().find(unlocked) {
+        moment.after.places.swap(place, highest);
+    }
+}
+
+/// Two pending flags go at once.
+fn pending_swallowed(moment: &mut Moment) {
+    if moment.reply.number == 3 {
+        moment.after.nexuses[usize::from(moment.command.nexus)].changed_by_vendor_event = false;
+    }
+}
+
+/// The status reader takes a page with control bits.
+fn status_takes_control_bits(moment: &mut Moment) {
+    let page = &moment.command.data;
+    if moment.command.kind == kind::READ_STATUS && moment.reply.number == 8 && page[12] & 0xF8 == 0x40 {
+        moment.reply.number = 0;
+        moment.reply.sense = [0; 3];
+    }
+}
+
+/// Bytes beyond the page are zeroed.
+fn fills_whole_buffer(moment: &mut Moment) {
+    if moment.command.kind == kind::IN && moment.reply.number == 0 {
+        let length = usize::from(u16::from_be_bytes([moment.reply.data[0], moment.reply.data[1]]));
+        moment.reply.data.iter_mut().skip(2 + length).for_each(|byte| *byte = 0);
+    }
+}
+
+/// Answer 9 has answer 10's sense.
+fn sense_of_9(moment: &mut Moment) {
+    if moment.reply.number == 9 {
+        moment.reply.sense[2] = 3;
+    }
+}
+
+/// A loaded record's last lock is lost.
+fn load_keeps_lock(moment: &mut Moment) {
+    if moment.command.kind == kind::LOAD_RECORD && moment.reply.number == 0 {
+        moment.after.nexuses[15].lock = false;
+    }
+}
+
+/// Only a changed number flags, not a changed place.
+fn number_alone_flags(moment: &mut Moment) {
+    for nexus in 0..16 {
+        let before = moment.before.selected_set(nexus).number;
+        if before == moment.after.selected_set(nexus).number && moment.command.kind == kind::VENDOR_RELEASE {
+            moment.after.nexuses[nexus].changed_by_vendor_event =
+                moment.before.nexuses[nexus].changed_by_vendor_event;
+        }
+    }
+}
+
+/// RDMC 01b is wrong under EXTERNAL too.
+fn rdmc_under_external(moment: &mut Moment) {
+    let page = &moment.command.data;
+    let set_page = moment.command.kind == kind::OUT && moment.reply.number == 0 && page[4] >> 5 != 0;
+    if set_page && page[5] & 0x38 == 0x10 && page[6] == 1 {
+        *moment.after = moment.before.clone();
+        moment.after.nexuses[usize::from(moment.command.nexus)].registered = true;
+        moment.reply.number = 8;
+        moment.reply.sense = [5, 0x26, 0];
+    }
+}
+
+/// The drive ends without a reply.
+fn ends_at_microcode(moment: &mut Moment) {
+    if moment.command.kind == kind::MICROCODE {
+        std::process::exit(3);
+    }
+}
+
+/// The drive gives no reply.
+fn hangs_at_preempt(moment: &mut Moment) {
+    if moment.command.kind == kind::PREEMPT {
+        std::thread::sleep(std::time::Duration::from_secs(30));
+    }
+}
+
+/// A drive with a fault, on a pipe.
+fn faulty_drive(fault: fn(&mut Moment)) -> io::Result<()> {
+    let mut drive = Drive::new();
+    let (mut input, mut output) = (io::stdin().lock(), io::stdout().lock());
+    while let Some(command) = Command::read(&mut input)? {
+        let before = drive.controller().record.clone();
+        let mut reply = drive.answer(&command);
+        let mut after = drive.controller().record.clone();
+        fault(&mut Moment { command: &command, before: &before, reply: &mut reply, after: &mut after });
+        drive.answer(&reference::comparison::session::load_bytes(record_bytes::give(&after)));
+        let mut bytes = Vec::new();
+        reply.give(&mut bytes);
+        output.write_all(&bytes)?;
+        output.flush()?;
+    }
+    Ok(())
+}
+
+/// Runs the comparison program; its exit status was success, and what it printed.
+fn compare(arguments: &[&str]) -> (bool, String) {
+    let output = Program::new(env!("CARGO_BIN_EXE_compare")).args(arguments).output().expect("compare runs");
+    (output.status.success(), String::from_utf8_lossy(&output.stdout).into_owned())
+}
+
+/// The number of commands of the short session in a report.
+fn commands_in(report: &str) -> Option<usize> {
+    let (_, rest) = report.split_once("short session of ")?;
+    rest.split_once(' ')?.0.parse().ok()
+}
+
+/// Every test; the texts of those that failed.
+fn failures() -> Vec<String> {
+    let mut failures = Vec::new();
+    let drive = env!("CARGO_BIN_EXE_drive");
+    let (equal, report) = compare(&["--seed", "1", "--calls", "20000", drive]);
+    if !equal {
+        failures.push(format!("the reference drive differs from the library:\n{report}"));
+    }
+    let (equal, report) = compare(&["--seed", "1", "--calls", "50", "--random", drive]);
+    if equal || !report.contains("never reached") {
+        failures.push(format!("fifty calls reach everything:\n{report}"));
+    }
+    let this = std::env::current_exe().expect("this program has a path");
+    let this = this.to_string_lossy();
+    for (name, _, longest) in FAULTS {
+        let (equal, report) =
+            compare(&["--seed", "1", "--calls", "20000", "--patience", "1", &this, "--fault", name]);
+        match commands_in(&report) {
+            _ if equal => failures.push(format!("fault {name} isn't found:\n{report}")),
+            Some(commands) if commands <= longest => println!("fault {name}: found, {commands} commands"),
+            Some(commands) => failures.push(format!("fault {name} leaves {commands} commands:\n{report}")),
+            None => failures.push(format!("fault {name} has no short session:\n{report}")),
+        }
+    }
+    failures
+}
+
+fn main() -> ExitCode {
+    let arguments: Vec<String> = std::env::args().collect();
+    if let Some(at) = arguments.iter().position(|argument| argument == "--fault") {
+        let fault = FAULTS.iter().find(|(name, _, _)| *name == arguments[at + 1]);
+        let (_, fault, _) = fault.expect("the fault has a name");
+        return if faulty_drive(*fault).is_ok() { ExitCode::SUCCESS } else { ExitCode::FAILURE };
+    }
+    let failures = failures();
+    for failure in &failures {
+        println!("FAILED: {failure}");
+    }
+    if failures.is_empty() {
+        ExitCode::SUCCESS
+    } else {
+        ExitCode::FAILURE
+    }
+}

@@ -1,0 +1,15 @@
+//! Tests of the reference against document 01.
+
+#![forbid(unsafe_code)]
+
+mod answers;
+mod events;
+mod examples;
+mod faulty_byte;
+mod given;
+mod page;
+mod record_bytes;
+mod response_pages;
+mod status_page;
+mod stream;
+mod well_formed;
