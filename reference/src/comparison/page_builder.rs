@@ -322,19 +322,22 @@ pub fn status_page_of(length: usize) -> Vec<u8> {
 
 /// A list of descriptors, mostly in order.
 pub fn random_list(numbers: &mut Numbers) -> Vec<u8> {
-    let mut list = Vec::new();
-    let wrong = numbers.percent(3);
+    let (wrong_length, falling) = (numbers.percent(3), numbers.percent(3));
+    let (mut u_kad, mut a_kad) = (Vec::new(), Vec::new());
     if numbers.percent(60) {
-        let length = if wrong { numbers.pick(&[0, 33]) } else { numbers.pick(&[1, 2, 5, 16, 31, 32, 32]) };
-        list.extend([0, 0, 0, length as u8]);
-        list.extend(numbers.bytes(length));
+        let length =
+            if wrong_length { numbers.pick(&[0, 33]) } else { numbers.pick(&[1, 5, 16, 31, 32, 32]) };
+        u_kad = [vec![0, 0, 0, length as u8], numbers.bytes(length)].concat();
     }
     if numbers.percent(50) {
-        let length = if wrong { numbers.pick(&[0, 13]) } else { numbers.pick(&[1, 2, 5, 11, 12, 12]) };
-        list.extend([1, 0, 0, length as u8]);
-        list.extend(numbers.bytes(length));
+        let length = if wrong_length { numbers.pick(&[0, 13]) } else { numbers.pick(&[1, 2, 5, 11, 12, 12]) };
+        a_kad = [vec![1, 0, 0, length as u8], numbers.bytes(length)].concat();
     }
-    list
+    if falling {
+        [a_kad, u_kad].concat()
+    } else {
+        [u_kad, a_kad].concat()
+    }
 }
 
 /// Damages a page in some way.

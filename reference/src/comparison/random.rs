@@ -70,12 +70,18 @@ impl RandomSessions {
             95 => power_on(),
             96 => load_bytes(self.damaged_record()),
             97 | 98 => load(&random_record(&mut self.numbers)),
-            _ => event(11 + self.numbers.below(242) as u8),
+            _ => self.unknown_kind(),
         };
         if self.numbers.percent(10) {
             self.fill_unread_fields(&mut command);
         }
         command
+    }
+
+    /// A kind of 11 to 252, with a length though no data follows.
+    fn unknown_kind(&mut self) -> Command {
+        let kind = if self.numbers.percent(50) { 11 } else { 11 + self.numbers.below(242) as u8 };
+        Command { length: self.numbers.pick(&[0, 0, 1, 52, 1317]), ..event(kind) }
     }
 
     /// Puts something into the fields the command doesn't have (the port stays 0).

@@ -1,0 +1,425 @@
+//! Plays P1 to P10 of document 01, "Proved examples", on a drive program and tells in words what happens.
+//!
+//! `demo PROGRAM [ARGUMENT ...]`
+
+#![forbid(unsafe_code)]
+
+#[path = "support/pipe.rs"]
+mod pipe;
+
+use pipe::Pipe;
+use reference::answer::{when, Refused, Sense, NO_SENSE};
+use reference::codes::{page_code, scope};
+use reference::comparison::page_builder::{descriptor, SetPage};
+use reference::comparison::session::{
+    event, give_record, power_on, read_status, security_in, security_out, write,
+};
+use reference::record::Record;
+use reference::record_bytes;
+use reference::sizes::U_KAD_BYTES;
+use reference::stream::{kind, Command, Reply};
+use std::process::ExitCode;
+
+const USAGE: &str = "usage: demo PROGRAM [ARGUMENT ...]";
+
+/// The status buffer lent to the drive.
+const LENT: u16 = 100;
+
+/// Why the play can't go on.
+type Played = Result<(), String>;
+
+fn main() -> ExitCode {
+    let program: Vec<String> = std::env::args().skip(1).collect();
+    let pipe = match program.first() {
+        None => Err(String::new()),
+        Some(option) if option.starts_with('-') => Err(format!("unknown option {option}\n")),
+        Some(_) => Pipe::start(&program).map_err(|fault| fault + "\n"),
+    };
+    let mut play = match pipe {
+        Ok(pipe) => Play { pipe, step: "", differing: Vec::new() },
+        Err(fault) => {
+            eprintln!("{fault}{USAGE}");
+            return ExitCode::from(2);
+        }
+    };
+    println!("The examples of document 01, played on {}.", program.join(" "));
+    println!(
+        "A nexus is one host's connection to the tape drive (0 to 15). It sends Set Data Encryption pages;"
+    );
+    println!(
+        "the drive keeps their parameters in places: 0 for all nexuses (ALL), 1 to 4 for one nexus (LOCAL)."
+    );
+    if let Err(trouble) = play.all() {
+        println!("{}: can't be played: {trouble}", play.step);
+        return ExitCode::FAILURE;
+    }
+    if !play.differing.is_empty() {
+        println!("\n{}: not as document 01 says", play.differing.join(", "));
+        return ExitCode::FAILURE;
+    }
+    println!("\nP1 to P10: as document 01 says");
+    ExitCode::SUCCESS
+}
+
+/// The play: the drive, the step at hand, and the steps that went another way than document 01 says.
+struct Play {
+    pipe: Pipe,
+    step: &'static str,
+    differing: Vec<&'static str>,
+}
+
+impl Play {
+    fn all(&mut self) -> Played {
+        self.p1()?;
+        self.p2()?;
+        self.p3()?;
+        self.p4()?;
+        self.p5()?;
+        self.p6()?;
+        self.p7()?;
+        self.p8()?;
+        self.p9()?;
+        self.p10()
+    }
+
+    fn p1(&mut self) -> Played {
+        self.start("P1", "status after power-on", "00 20 00 14, then 20 zeros")?;
+        self.status(3, &[0x00, 0x20, 0x00, 0x14], 24)
+    }
+
+    fn p2(&mut self) -> Played {
+        self.start(
+            "P2",
+            "nexus 3 sends page K",
+            "place 1, number 1, and a status page that tells of the set",
+        )?;
+        self.page(3, "page K", &SetPage::k().bytes(), 0)?;
+        let status = [0x00, 0x20, 0x00, 0x14, 0x21, 0x02, 0x02, 0x01, 0x00, 0x00, 0x00, 0x01, 0x02];
+        self.status(3, &status, 24)?;
+        self.record("nexus 3 has place 1 with number 1", |record| {
+            (record.selected_place(3), record.places[1].number) == (1, 1)
+        })
+    }
+
+    fn p3(&mut self) -> Played {
+        self.start("P3", "damaged pages", "7 for K cut to 51 bytes, 8 for K with SCOPE 3")?;
+        let k = SetPage::k().bytes();
+        self.page(3, "page K cut to 51 bytes", &k[..51], 7)?;
+        self.page(3, "page K with byte 4 61h", &SetPage { scope: 3, ..SetPage::k() }.bytes(), 8)
+    }
+
+    fn p4(&mut self) -> Played {
+        self.start("P4", "writing after P2", "encrypted from place 1; 12 where the volume can't hold it")?;
+        self.page(3, "page K", &SetPage::k().bytes(), 0)?;
+        self.write(3, true, Ok([2, 1, 1]))?;
+        self.write(3, false, Err(12))
+    }
+
+    fn p5(&mut self) -> Played {
+        let expected = "nexus 4 takes place 1, number 6; nexus 0 is PUBLIC and is told (3)";
+        self.start("P5", "five nexuses, four LOCAL places, nobody locked", expected)?;
+        let page = SetPage::k_unlocked().bytes();
+        self.pages(
+            "Nexuses 0, 1, 2 and 3 each send page K unlocked",
+            &[0, 1, 2, 3].map(|nexus| (nexus, page.clone())),
+        )?;
+        self.page(4, "page K unlocked", &page, 0)?;
+        self.write(4, true, Ok([2, 1, 1]))?;
+        let status = [0x00, 0x20, 0x00, 0x14, 0x21, 0x02, 0x02, 0x01, 0x00, 0x00, 0x00, 0x06, 0x02];
+        self.status(4, &status, 24)?;
+        self.write(0, true, Err(3))?;
+        self.status(0, &[0x00, 0x20, 0x00, 0x14], 24)
+    }
+
+    fn p6(&mut self) -> Played {
+        self.start("P6", "as P5, but all four locked", "10 for nexus 4")?;
+        self.pages(
+            "Nexuses 0, 1, 2 and 3 each send page K",
+            &[0, 1, 2, 3].map(|nexus| (nexus, SetPage::k().bytes())),
+        )?;
+        self.page(4, "page K", &SetPage::k().bytes(), 10)
+    }
+
+    fn p7(&mut self) -> Played {
+        let expected = "number 2 drawn; nexus 3's write gives 4, then 11";
+        self.start("P7", "the volume is demounted after P2", expected)?;
+        self.page(3, "page K", &SetPage::k().bytes(), 0)?;
+        self.tell("The volume is demounted (K has CKOD, clear key on demount)", &event(kind::DEMOUNT), 0)?;
+        self.record("place 1 is empty with number 2", |record| {
+            (record.places[1].is_used(), record.places[1].number, record.counter) == (false, 2, 2)
+        })?;
+        self.write(3, true, Err(4))?;
+        self.write(3, true, Err(11))
+    }
+
+    fn p8(&mut self) -> Played {
+        let expected = "nexus 5's write gives 3, then 11";
+        self.start("P8", "nexus 5 locks PUBLIC, then nexus 6 sets ALL", expected)?;
+        self.page(5, "a PUBLIC page", &SetPage::public(true).bytes(), 0)?;
+        self.page(6, "an ALL page", &SetPage::all().bytes(), 0)?;
+        self.write(5, true, Err(3))?;
+        self.write(5, true, Err(11))
+    }
+
+    fn p9(&mut self) -> Played {
+        let expected = "the write still passes after a supplemental key; 9 for the fifth key";
+        self.start("P9", "supplemental keys after P2", expected)?;
+        self.page(3, "page K", &SetPage::k().bytes(), 0)?;
+        let key = |number| SetPage::supplemental(scope::LOCAL, 2, number).bytes();
+        self.page(3, "supplemental key 1", &key(1), 0)?;
+        self.write(3, true, Ok([2, 1, 1]))?;
+        self.pages("Nexus 3 sends supplemental keys 2, 3 and 4", &[2, 3, 4].map(|number| (3, key(number))))?;
+        self.page(3, "supplemental key 5", &key(5), 9)
+    }
+
+    fn p10(&mut self) -> Played {
+        let expected = "32 bytes are taken; 8 for 33 bytes and for none";
+        self.start("P10", "a description of the key (U-KAD)", expected)?;
+        let with =
+            |length: usize| SetPage { list: descriptor(0, length as u16, length), ..SetPage::k() }.bytes();
+        self.page(3, "page K with a U-KAD of 32 bytes", &with(32), 0)?;
+        let mut status = vec![0x00, 0x20, 0x00, 0x38, 0x21, 0x02, 0x02, 0x01, 0x00, 0x00, 0x00, 0x01, 0x02];
+        status.resize(24, 0);
+        status.extend(descriptor(0, 32, 32));
+        self.status(3, &status, 60)?;
+        self.page(3, "page K with a U-KAD of 33 bytes", &with(33), 8)?;
+        self.page(3, "page K with a U-KAD of 0 bytes", &with(0), 8)
+    }
+
+    /// A step's heading, what document 01 expects, and power-on.
+    fn start(&mut self, step: &'static str, what: &str, expected: &str) -> Played {
+        self.step = step;
+        println!("\n{step}: {what}\n  Document 01 expects: {expected}.");
+        let reply = self.pipe.ask(&power_on())?;
+        println!("  Power-on: {}", answer_words(&reply));
+        self.check(is_plain(&reply, 0), "answer 0");
+        Ok(())
+    }
+
+    /// Says so if the drive went another way.
+    fn check(&mut self, same: bool, expected: &str) {
+        if !same {
+            println!("    DIFFERS: document 01 says {expected}");
+            if !self.differing.contains(&self.step) {
+                self.differing.push(self.step);
+            }
+        }
+    }
+
+    /// A command that is answered by its number alone.
+    fn tell(&mut self, words: &str, command: &Command, number: u8) -> Played {
+        let reply = self.pipe.ask(command)?;
+        println!("  {words} -> {}", answer_words(&reply));
+        self.check(is_plain(&reply, number), &expected_words(number));
+        Ok(())
+    }
+
+    /// A nexus sends a page.
+    fn page(&mut self, nexus: u8, name: &str, page: &[u8], number: u8) -> Played {
+        let words = format!("Nexus {nexus} sends {name} ({})", page_words(page));
+        self.tell(&words, &security_out(nexus, page.to_vec()), number)
+    }
+
+    /// Several pages of one form, each from its nexus, and each is answered 0.
+    fn pages(&mut self, words: &str, pages: &[(u8, Vec<u8>)]) -> Played {
+        println!("  {words} ({})", page_words(&pages[0].1));
+        let mut replies = Vec::new();
+        for (nexus, page) in pages {
+            replies.push(self.pipe.ask(&security_out(*nexus, page.clone()))?);
+        }
+        let other = replies.iter().find(|reply| !is_plain(reply, 0));
+        match other {
+            None => println!("    -> each: {}", answer_words(&replies[0])),
+            Some(other) => println!("    -> one of them: {}", answer_words(other)),
+        }
+        self.check(other.is_none(), &expected_words(0));
+        Ok(())
+    }
+
+    /// A nexus writes; expected are decision, place and index, or a number.
+    fn write(&mut self, nexus: u8, supported: bool, expected: Result<[u8; 3], u8>) -> Played {
+        let reply = self.pipe.ask(&write(nexus, supported))?;
+        let volume = if supported { "supports" } else { "doesn't support" };
+        let decision = match (reply.number, reply.data.as_slice()) {
+            (0, [decision, place, index]) => {
+                format!(": {}, place {place}, index {index}", decision_name(*decision))
+            }
+            _ => String::new(),
+        };
+        let answer = answer_words(&reply);
+        println!("  Nexus {nexus} writes (the volume {volume} algorithm 1) -> {answer}{decision}");
+        match expected {
+            Ok(data) => {
+                let words = format!("{}, place {}, index {}", decision_name(data[0]), data[1], data[2]);
+                self.check(
+                    (reply.number, reply.sense, reply.data.as_slice()) == (0, NO_SENSE, &data),
+                    &words,
+                );
+            }
+            Err(number) => self.check(is_plain(&reply, number), &expected_words(number)),
+        }
+        Ok(())
+    }
+
+    /// A nexus reads its status page, which begins with these bytes and has zeros after them, and the status
+    /// reader (253) tells what it says.
+    fn status(&mut self, nexus: u8, begins: &[u8], length: usize) -> Played {
+        let mut expected = begins.to_vec();
+        expected.resize(length, 0);
+        let reply = self.pipe.ask(&security_in(nexus, page_code::STATUS, LENT))?;
+        let full =
+            reply.data.get(..2).map_or(0, |bytes| usize::from(u16::from_be_bytes([bytes[0], bytes[1]])));
+        let page = reply.data.get(2..2 + full).unwrap_or(&[]).to_vec();
+        println!("  Nexus {nexus} reads its status page (0020h) -> {}", answer_words(&reply));
+        println!("    {}", bytes_words(&page));
+        self.check(reply.number == 0 && page == expected, &bytes_words(&expected));
+        let read = self.pipe.ask(&read_status(page))?;
+        let values = status_values(&expected);
+        println!("    the status reader: {}", status_words(&read));
+        self.check(
+            (read.number, read.sense, &read.data) == (0, NO_SENSE, &values),
+            &status_words(&Reply { number: 0, sense: NO_SENSE, data: values.clone() }),
+        );
+        Ok(())
+    }
+
+    /// The drive's record, asked whether something holds of it.
+    fn record(&mut self, words: &str, holds: impl Fn(&Record) -> bool) -> Played {
+        let reply = self.pipe.ask(&give_record())?;
+        let same = record_bytes::load(&reply.data).is_some_and(|record| holds(&record));
+        println!("  The drive's record: {}{words}", if same { "" } else { "it is not so that " });
+        self.check(same, words);
+        Ok(())
+    }
+}
+
+/// Whether a reply is this number with document 01's sense and nothing else.
+fn is_plain(reply: &Reply, number: u8) -> bool {
+    reply.number == number && reply.sense == sense_of(number) && reply.data.is_empty()
+}
+
+/// Document 01's sense for an answer number.
+fn sense_of(number: u8) -> Sense {
+    let refused = Refused::EVERY.into_iter().find(|refused| refused.number() == number);
+    refused.map_or(NO_SENSE, Refused::sense)
+}
+
+/// An answer number with its meaning, and its sense with SPC-4's name.
+fn answer_words(reply: &Reply) -> String {
+    number_words(reply.number, reply.sense)
+}
+
+fn expected_words(number: u8) -> String {
+    number_words(number, sense_of(number))
+}
+
+fn number_words(number: u8, sense: Sense) -> String {
+    let words = format!("answer {number}, {}", when(number));
+    if sense == NO_SENSE {
+        return words;
+    }
+    let [key, asc, ascq] = sense;
+    format!(
+        "{words}\n    sense {key:X}/{asc:02X}/{ascq:02X}: {}, {}",
+        sense_key_name(key),
+        sense_name(asc, ascq)
+    )
+}
+
+/// SPC-4's names of the sense keys.
+fn sense_key_name(key: u8) -> &'static str {
+    match key {
+        5 => "ILLEGAL REQUEST",
+        6 => "UNIT ATTENTION",
+        7 => "DATA PROTECT",
+        _ => "a sense key document 01 doesn't use",
+    }
+}
+
+/// SPC-4's names of the additional sense codes.
+fn sense_name(asc: u8, ascq: u8) -> &'static str {
+    match (asc, ascq) {
+        (0x1A, 0x00) => "PARAMETER LIST LENGTH ERROR",
+        (0x24, 0x00) => "INVALID FIELD IN CDB",
+        (0x26, 0x00) => "INVALID FIELD IN PARAMETER LIST",
+        (0x2A, 0x11) => "DATA ENCRYPTION PARAMETERS CHANGED BY ANOTHER I_T NEXUS",
+        (0x2A, 0x12) => "DATA ENCRYPTION PARAMETERS CHANGED BY VENDOR SPECIFIC EVENT",
+        (0x2A, 0x13) => "DATA ENCRYPTION KEY INSTANCE COUNTER HAS CHANGED",
+        (0x55, 0x03) => "INSUFFICIENT RESOURCES",
+        (0x55, 0x08) => "MAXIMUM NUMBER OF SUPPLEMENTAL DECRYPTION KEYS EXCEEDED",
+        (0x74, 0x07) => "ENCRYPTION PARAMETERS NOT USEABLE",
+        _ => "a code document 01 doesn't use",
+    }
+}
+
+fn scope_name(scope: u8) -> &'static str {
+    ["PUBLIC", "LOCAL", "ALL"].get(usize::from(scope)).copied().unwrap_or("unknown")
+}
+
+fn encryption_name(mode: u8) -> &'static str {
+    ["DISABLE", "EXTERNAL", "ENCRYPT"].get(usize::from(mode)).copied().unwrap_or("unknown")
+}
+
+fn decryption_name(mode: u8) -> &'static str {
+    ["DISABLE", "RAW", "DECRYPT", "MIXED"].get(usize::from(mode)).copied().unwrap_or("unknown")
+}
+
+fn decision_name(decision: u8) -> &'static str {
+    ["clear", "external", "encrypted"].get(usize::from(decision)).copied().unwrap_or("unknown")
+}
+
+/// A Set Data Encryption page of at least 20 bytes, in words.
+fn page_words(page: &[u8]) -> String {
+    let scope = page[4] >> 5;
+    let scope_words = if scope > 2 { format!("SCOPE {scope}") } else { scope_name(scope).to_string() };
+    let count = page.len();
+    if page[5] & 0x08 != 0 && scope != 0 {
+        return format!("{scope_words}, SDK, {}, {count} bytes", decryption_name(page[7]));
+    }
+    let lock = if page[4] & 1 == 1 { "locked" } else { "unlocked" };
+    if scope == 0 {
+        return format!("{scope_words}, {lock}, {count} bytes");
+    }
+    let modes = format!("{}/{}", encryption_name(page[6]), decryption_name(page[7]));
+    format!("{scope_words}, {lock}, {modes}, {count} bytes")
+}
+
+/// Bytes in hex; zeros at the end are counted, and a long page is cut.
+fn bytes_words(page: &[u8]) -> String {
+    let end = page.iter().rposition(|&byte| byte != 0).map_or(0, |last| last + 1);
+    let shown: Vec<String> = page[..end.min(28)].iter().map(|byte| format!("{byte:02X}")).collect();
+    let rest = match (end > 28, page.len() - end) {
+        (true, _) => format!(" and {} more", page.len() - 28),
+        (false, 0) => String::new(),
+        (false, zeros) => format!(", then {zeros} zeros"),
+    };
+    shown.join(" ") + &rest
+}
+
+/// The values the status reader is to give for a status page whose only descriptor, if any, is a U-KAD.
+fn status_values(page: &[u8]) -> Vec<u8> {
+    let mut values = vec![page[4] >> 5, page[4] & 7, page[5], page[6], page[7]];
+    values.extend(&page[8..12]);
+    values.extend([page[12] >> 1 & 3, page[12] & 1]);
+    let u_kad = page.get(28..).unwrap_or(&[]);
+    values.push(u_kad.len() as u8);
+    values.extend(u_kad);
+    values.resize(11 + 1 + 32 + 1 + 12, 0);
+    values
+}
+
+/// What the status reader answers, in words.
+fn status_words(reply: &Reply) -> String {
+    let Some((values, rest)) = reply.data.split_first_chunk::<12>() else { return answer_words(reply) };
+    let [nexus_scope, set_scope, encryption, decryption, index, n3, n2, n1, n0, ceems, rdmd, u_kad] = *values;
+    let number = u32::from_be_bytes([n3, n2, n1, n0]);
+    let a_kad = rest.get(U_KAD_BYTES).copied().unwrap_or(0);
+    let set = if set_scope == 0 { "default" } else { scope_name(set_scope) };
+    format!(
+        "nexus {}, set {set}, {}/{}, index {index}, number {number},\n      \
+         CEEMS {ceems}, RDMD {rdmd}, U-KAD of {u_kad} bytes, A-KAD of {a_kad} bytes",
+        scope_name(nexus_scope),
+        encryption_name(encryption),
+        decryption_name(decryption),
+    )
+}
