@@ -1,15 +1,21 @@
--- What follows from a value of `each` and `find`, for a caller of a function that promises one.
+-- Laws of lists: what follows from a value of `each` and `find`, for a caller of a function that promises one, and lists that are read,
+-- changed at one index or made anew.
 -- Assumes nothing.
 use Prim.Native.Nat.{ℕ, zero, suc, _+_, _≤_, _<_, suc-le-suc}
-use mathlib.Core.Path.{_≡_, refl, sym, ap, _∙_}
+use mathlib.Core.Path.{_≡_, refl, sym, ap, ap₂, subst, _∙_}
 use mathlib.Core.List.{List, [], _∷_, _++_, map}
-use mathlib.Core.Bool.{Bool, true, _&&_, and-assoc}
+use mathlib.Core.Bool.{Bool, true, false, _&&_, and-assoc}
 use native.Mathlib.Nat.{le-of-suc-le-suc, not-suc-le-zero, not-le-of-lt, zero-add, add-zero, add-suc, suc-add}
 use native.Mathlib.Omega.{arith}
-use lib.ListN.{length, getD, length-map}
+use native.Mathlib.Numerals.{add-one}
+use borrow.Author.Tests.{eqb-true, eqb-false, eq-eqb, ltb-true, ltb-false}
+use lib.Dec.{eqb, ltb}
+use lib.ListN.{length, getD, set, drop, length-map, List·getD-map}
+use lib.Seq.{sets, getD-set-same, getD-set-other, set-out, getD-drop, drop-drop, drop-set-lt}
 use Rattle.arrays.specs.Base.{pick}
 use Rattle.arrays.specs.Arrays.{mapFrom, foldFrom, each, all, find}
-use Rattle.arrays.proofs.Base.{and-left, and-right, pick-elim}
+use Rattle.arrays.proofs.Base.{cases, and-left, and-right, pick-elim, pick-true, pick-false}
+use Rattle.arrays.proofs.Loops.{mapFrom-map}
 
 module _ {A : Type 0} (p : ℕ → A → Bool) (d : A) where
   abbrev eachFrom : ℕ → List A → Bool
@@ -98,3 +104,100 @@ module _ {A : Type 0} (p : A → Bool) where
   pub all-append : (xs ys : List A) → all p (xs ++ ys) ≡ (all p xs && all p ys)
   all-append [] ys = refl
   all-append (x ∷ xs) ys = rw (all-cons x (xs ++ ys), all-append xs ys, all-cons x xs) (sym (and-assoc (p x) (all p xs) (all p ys)))
+
+-- the element at an index once another is stored
+pub getD-set : {A : Type 0} (l : List A) (q p : ℕ) (v d : A) → getD (set l q v) p d ≡ pick (eqb p q && ltb q (length l)) v (getD l p d)
+getD-set l q p v d =
+    cases (eqb p q)
+    (λ e. cases (ltb q (length l))
+    (λ b. rw (eqb-true p q e) (getD-set-same l q v d (ltb-true _ _ b) ∙ simp (eq-eqb q q refl, b)))
+    (λ b. ap (λ x. getD x p d) (set-out l q v (ltb-false _ _ b)) ∙ simp (e, b)))
+    (λ e. getD-set-other l q p v d (eqb-false p q e) ∙ simp e)
+
+-- an element stored: what holds of it at its index, and elsewhere of what was there, holds at each index
+pub getD-set-by : {A : Type 0} (P : A → Type 0) (xs : List A) (i j : ℕ) (v d : A) → (j ≡ i → i < length xs) → (j ≡ i → P v) → (eqb j i ≡ false → P (getD xs j d)) → P (getD (set xs i v) j d)
+getD-set-by P xs i j v d within same other =
+    cases (eqb j i)
+    (λ e. let q : j ≡ i = eqb-true j i e in
+    subst P (sym (ap (λ (k : ℕ). getD (set xs i v) k d) q ∙ getD-set-same xs i v d (within q))) (same q))
+    (λ e. subst P (sym (getD-set-other xs i j v d (eqb-false j i e))) (other e))
+
+-- a run of stores leaves what is past it
+pub drop-sets : (v l : List ℕ) (i : ℕ) → drop (i + length v) (sets l i v) ≡ drop (i + length v) l
+drop-sets [] l i = refl
+drop-sets (x ∷ v) l i =
+    rw (add-suc i (length v), ← suc-add i (length v))
+    (drop-sets v (set l i x) (suc i) ∙ drop-set-lt (suc i + length v) l i x (omega arith))
+
+-- what stands first of the rest of a list
+pub first-of : {A : Type 0} (l : List A) (k : ℕ) (x : A) (xs : List A) (d : A) → drop k l ≡ x ∷ xs → getD l k d ≡ x
+first-of {A} l k x xs d e = rw add-zero at (sym (getD-drop k l 0 d)) ∙ ap (λ (r : List A). getD r 0 d) e
+
+-- and what is left then
+pub rest-of : {A : Type 0} (l : List A) (k : ℕ) (x : A) (xs : List A) → drop k l ≡ x ∷ xs → drop (suc k) l ≡ xs
+rest-of l k x xs e = rw add-one at (sym (drop-drop 1 k l)) ∙ ap (drop 1) e
+
+-- what is read of an element is the same where it is the same of the whole lists
+pub read-same : {A B : Type 0} (r : A → B) (l m : List A) (d : A) → map r l ≡ map r m → (i : ℕ) → r (getD l i d) ≡ r (getD m i d)
+read-same r l m d e i = sym (List·getD-map r l i d) ∙ ap (λ x. getD x i (r d)) e ∙ List·getD-map r m i d
+
+-- a rewriting that keeps what is read
+pub read-mapFrom : {A B : Type 0} (r : A → B) (f : ℕ → A → A) → ((i : ℕ) (x : A) → r (f i x) ≡ r x) → (k : ℕ) (l : List A) → map r (mapFrom f k l) ≡ map r l
+read-mapFrom r f e k [] = refl
+read-mapFrom {B = B} r f e k (x ∷ l) = ap₂ {C = List B} _∷_ (e k x) (read-mapFrom r f e (suc k) l)
+
+-- a map that keeps what is read
+pub read-map : {A B : Type 0} (r : A → B) (f : A → A) → ((x : A) → r (f x) ≡ r x) → (l : List A) → map r (map f l) ≡ map r l
+read-map r f e l = ap (map r) (sym (mapFrom-map f 0 l)) ∙ read-mapFrom r (λ i. f) (λ i. e) 0 l
+
+-- a map of a list once an element is stored
+pub map-set : {A B : Type 0} (g : A → B) (l : List A) (q : ℕ) (v : A) → map g (set l q v) ≡ set (map g l) q (g v)
+map-set g [] q v = refl
+map-set g (x ∷ l) zero v = refl
+map-set {B = B} g (x ∷ l) (suc q) v = ap {B = List B} (λ r. g x ∷ r) (map-set g l q v)
+
+-- a map of a rewritten list is a rewriting of the map
+pub map-mapFrom : {A B : Type 0} (g : A → B) (f : ℕ → A → A) (h : ℕ → B → B) → ((i : ℕ) (x : A) → g (f i x) ≡ h i (g x)) → (k : ℕ) (l : List A) → map g (mapFrom f k l) ≡ mapFrom h k (map g l)
+map-mapFrom g f h e k [] = refl
+map-mapFrom {B = B} g f h e k (x ∷ l) = ap₂ {C = List B} _∷_ (e k x) (map-mapFrom g f h e (suc k) l)
+
+-- a map of a mapped list
+pub map-over : {A B : Type 0} (g : A → B) (f : A → A) (h : B → B) → ((x : A) → g (f x) ≡ h (g x)) → (l : List A) → map g (map f l) ≡ map h (map g l)
+map-over g f h e l = ap (map g) (sym (mapFrom-map f 0 l)) ∙ map-mapFrom g (λ i. f) (λ i. h) (λ i. e) 0 l ∙ mapFrom-map h 0 (map g l)
+
+-- what is gathered of a map's elements, where each tells what the old one told
+pub foldFrom-map : {A B R : Type 0} (f : A → B) (g : ℕ → B → R → R) (h : ℕ → A → R → R) (z : R) → ((i : ℕ) (x : A) (r : R) → g i (f x) r ≡ h i x r) → (k : ℕ) (l : List A) → foldFrom g z k (map f l) ≡ foldFrom h z k l
+foldFrom-map f g h z e k l =
+    ap (foldFrom g z k) (sym (mapFrom-map f k l)) ∙ foldFrom-mapFrom g z (λ i. f) k l ∙ foldFrom-same (λ i x r. g i (f x) r) h z e k l
+
+-- lists of which the same is read are as long
+pub same-length : {A B : Type 0} (r : A → B) (l m : List A) → map r l ≡ map r m → length l ≡ length m
+same-length r l m e = sym (length-map l r) ∙ ap length e ∙ length-map m r
+
+-- a search by a test of the element alone
+module _ {A R : Type 0} (at : ℕ → R) (none : R) (p : A → Bool) where
+  abbrev from : ℕ → List A → R
+  from = foldFrom (λ k x r. pick (p x) (at k) r) none
+
+  -- from any element on
+  set-from : (l : List A) (k q : ℕ) (v : A) → p v ≡ false → (from k l ≡ at (k + q) → ⊥) → from k (set l q v) ≡ from k l
+  set-from [] k q v e ne = refl
+  set-from (x ∷ l) k zero v e ne =
+      cases (p x)
+      (λ t. absurd (ne (rw add-zero (pick-true (p x) (at k) _ t))))
+      (λ t. pick-false (p v) (at k) _ e ∙ sym (pick-false (p x) (at k) _ t))
+  set-from (x ∷ l) k (suc q) v e ne =
+      cases (p x)
+      (λ t. pick-true (p x) (at k) _ t ∙ sym (pick-true (p x) (at k) _ t))
+      (λ t. ap (λ (r : R). pick (p x) (at k) r) (set-from l (suc k) q v e (λ y. ne (pick-false (p x) (at k) _ t ∙ rw (add-suc k q, ← suc-add k q) y))))
+
+  -- it is blind to an index that it did not stop at, where what comes there does not pass
+  pub find-set : (l : List A) (q : ℕ) (v : A) → p v ≡ false → (find at none (λ k. p) l ≡ at q → ⊥) → find at none (λ k. p) (set l q v) ≡ find at none (λ k. p) l
+  find-set l q v e ne = set-from l 0 q v e (λ y. ne (rw zero-add at y))
+
+  -- it finds the same where the test tells the same of each element
+  pub find-same : (l m : List A) → map p l ≡ map p m → find at none (λ k. p) l ≡ find at none (λ k. p) m
+  find-same l m e = sym (over l) ∙ ap (λ (x : List Bool). foldFrom (λ k b r. pick b (at k) r) none 0 x) e ∙ over m
+    where
+      over : (l : List A) → foldFrom (λ k b r. pick b (at k) r) none 0 (map p l) ≡ find at none (λ k. p) l
+      over l = foldFrom-map p (λ k b r. pick b (at k) r) (λ k x r. pick (p x) (at k) r) none (λ i x r. refl) 0 l

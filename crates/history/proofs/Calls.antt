@@ -9,7 +9,8 @@ use lib.ListN.{length}
 use lib.Dec.{eqb}
 use borrow.Author.Tests.{eqb-true, not-true}
 use Rattle.arrays.specs.Base.{pick}
-use Rattle.arrays.proofs.Base.{cases, clash, and-left, and-right}
+use Rattle.arrays.proofs.Base.{cases, clash, and-left, and-right, pick-true, pick-false}
+use Rattle.arrays.proofs.Laws.{read-same}
 use Rattle.answer.specs.Answers.{isDone}
 use Rattle.page.specs.declared.Page.{Page}
 use Rattle.device.specs.Record.{State, powerOn, nexusAt, newNexus}
@@ -18,15 +19,15 @@ use Rattle.device.specs.declared.Nexus.{Nexus}
 use Rattle.device.specs.declared.Found.{Found}
 use Rattle.device.specs.declared.Found.the-variants.{At, Nowhere}
 use Rattle.places.specs.Actions.{acts, pageActions}
+use Rattle.places.proofs.Lengths.{acts-size}
 use Rattle.drive.specs.Calls.{Call, powerUp, securityIn, securityOut, write, unitReset, happens}
 use Rattle.drive.specs.Answers.{pageChecked, answer}
 use Rattle.drive.specs.After.{actions, accepted, after}
 use Rattle.history.specs.History.{accepts, hits, Trail, earlier, isFound, followed}
 use Rattle.history.proofs.Core.{Mark, View}
-use Rattle.history.proofs.Lists.{pick-true, pick-false, read-same}
-use Rattle.history.proofs.Numbers.{Fits, acts-counter, acts-places}
+use Rattle.history.proofs.Numbers.{Fits, acts-counter}
 use Rattle.history.proofs.Keeps.{carried-out}
-use Rattle.history.proofs.Steps.{hitBy, acts-size, acts-nexuses, acts-inv}
+use Rattle.history.proofs.Steps.{hitBy, acts-nexuses, acts-inv}
 use Rattle.history.proofs.Inert.{isPowerUp, after-inert, after-foreign}
 use Rattle.history.proofs.Good.{Good, inert-good, power-good, power-unlocked}
 use Rattle.history.proofs.Own.{accepted-good, accepted-counter}
@@ -64,9 +65,9 @@ module _ (n i : ℕ) (s : State) (t : Trail) (g : Good n (forget t) s) where
       let l = actions s call in
       let h = after-inert n s call e p in
       let acted : Good n (hitBy (actions s call) (forget t)) (acts s (actions s call)) = record {
-        here = rw (acts-size l s) (g .here);
-        some = rw (acts-places l s) (g .some);
-        inv = acts-inv n (forget t) l s (g .here) fits (after-foreign n s call e) (g .inv);
+        here = rw (acts-size s l .nexuses) (g .here);
+        some = rw (acts-size s l .places) (g .some);
+        inv = acts-inv n (forget t) l s fits (after-foreign n s call e) (g .inv);
       } in
       let counter : after s call .counter ≡ s .counter + length (actions s call) = ap (λ (v : View). v .counter) (h .same) ∙ acts-counter l s fits in
       let lock : nexusAt (after s call) n .lock ≡ nexusAt s n .lock =

@@ -7,7 +7,7 @@ use native.Mathlib.Omega.{arith}
 use lib.Dec.{eqb, ltb}
 use borrow.Author.Tests.{eqb-true, eqb-false, eq-eqb, ne-eqb, lt-ltb}
 use Rattle.arrays.specs.Base.{pick}
-use Rattle.arrays.proofs.Base.{cases, clash, and-left}
+use Rattle.arrays.proofs.Base.{cases, clash, and-left, or-left-false, or-right-false}
 
 -- the place that the nexus's latest page left it using, and whether a later call acted on it
 pub record Mark : Type 0 where
@@ -57,16 +57,6 @@ pub record Drawn (q : ℕ) (v w : View) : Type 0 where
 -- what the mark becomes
 abbrev pub hit : ℕ → Mark → Mark
 hit q m = record { left = m .left; touched = m .touched || eqb (m .left) q }
-
--- neither holds where one of them does not
-pub or-left-false : (a b : Bool) → (a || b) ≡ false → a ≡ false
-or-left-false true b e = clash refl e
-or-left-false false b e = refl
-
--- the second too
-pub or-right-false : (a b : Bool) → (a || b) ≡ false → b ≡ false
-or-right-false true b e = clash refl e
-or-right-false false b e = e
 
 module _ (q : ℕ) (v w : View) (i : Sound v) (h : Drawn q v w) where
   test : ℕ → Bool

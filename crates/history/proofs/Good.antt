@@ -4,10 +4,11 @@ use Prim.Native.Nat.{ℕ, zero, suc, _<_}
 use mathlib.Core.Bool.{false}
 use mathlib.Core.Path.{_≡_, refl, sym, ap, subst}
 use native.Mathlib.Omega.{arith}
-use lib.ListN.{length, getD, replicate, length-replicate}
+use lib.ListN.{length, getD, replicate}
 use Rattle.device.specs.Record.{State, powerOn, nexusAt, noSet, newNexus, emptySet}
 use Rattle.device.specs.declared.Set.{Set}
 use Rattle.device.specs.declared.Nexus.{Nexus}
+use Rattle.places.proofs.Lengths.{power-places, power-nexuses}
 use Rattle.history.proofs.Core.{Mark, View, Sound, Inv, unlocked-inv}
 use Rattle.history.proofs.Steps.{view}
 use Rattle.history.proofs.Inert.{Inert}
@@ -54,16 +55,6 @@ power-sound nexuses places n =
       born = λ p e. blank-set (λ x. x .scope) refl refl places p;
       drawn = omega (arith, ap (λ (x : Nexus). x .saved) (new-nexus nexuses n));
     }
-
--- there are the places asked for
-power-places : (nexuses places : ℕ) → length (powerOn nexuses places .sets) ≡ places
-unfolding powerOn
-power-places nexuses places = length-replicate places (emptySet 0)
-
--- and the nexuses
-power-nexuses : (nexuses places : ℕ) → length (powerOn nexuses places .nexuses) ≡ nexuses
-unfolding powerOn
-power-nexuses nexuses places = length-replicate nexuses newNexus
 
 -- the invariant holds at power-on, whatever the history noted before
 pub power-good : (m : Mark) (nexuses places n : ℕ) → 0 < places → n < nexuses → m .left < places → Good n m (powerOn nexuses places)

@@ -1,6 +1,6 @@
 -- Calls that are no page of a nexus: but for their actions they change nothing that the invariant speaks of.
 -- Assumes nothing.
-use Prim.Native.Nat.{ℕ, suc, _+_}
+use Prim.Native.Nat.{ℕ}
 use mathlib.Core.Bool.{Bool, true, false, not, _&&_, and-true}
 use mathlib.Core.List.{List, [], _∷_, _++_, map}
 use mathlib.Core.Path.{_≡_, refl, sym, _∙_, ap}
@@ -9,13 +9,13 @@ use lib.Seq.{map-set-same, getD-set-other}
 use lib.Dec.{eqb}
 use borrow.Author.Tests.{eqb-false}
 use Rattle.arrays.specs.Base.{pick}
-use Rattle.arrays.specs.Arrays.{foldFrom}
 use Rattle.arrays.proofs.Base.{cases, clash, pick-elim}
+use Rattle.arrays.proofs.Laws.{read-same, read-map, read-mapFrom, same-length, find-same}
 use Rattle.answer.specs.Answers.{isDone}
 use Rattle.answer.specs.declared.Answer.{Answer}
 use Rattle.page.specs.declared.Fields.{Fields}
 use Rattle.page.specs.declared.Page.{Page}
-use Rattle.device.specs.Record.{State, setAt, nexusAt, noSet, newNexus, used, localScope, allScope}
+use Rattle.device.specs.Record.{State, setAt, nexusAt, noSet, newNexus, localScope, allScope}
 use Rattle.device.specs.Updates.{registered, withSupplemental, withNexuses, atNexus}
 use Rattle.device.specs.Selecting.{owns, ownedPlace, orElse, selected}
 use Rattle.device.specs.declared.Supplemental.{Supplemental}
@@ -25,16 +25,16 @@ use Rattle.device.specs.declared.Nexus.{Nexus}
 use Rattle.device.specs.declared.Found.{Found}
 use Rattle.device.specs.declared.Found.the-variants.{At, Nowhere}
 use Rattle.marks.specs.Reset.{unmarked}
-use Rattle.places.specs.Actions.{Action, release, acts, releases, ownPlace, releaseFound, releaseOwn, room, establishIn, pageActions, settled, supplemented, taken, releasedBy}
+use Rattle.places.specs.Actions.{Action, acts, releases, ownPlace, releaseFound, releaseOwn, room, establishIn, pageActions, settled, supplemented, taken, releasedBy}
 use Rattle.places.specs.declared.Room.{Room}
 use Rattle.places.specs.declared.Room.the-variants.{Free, Taken, NoRoom}
+use Rattle.places.proofs.Releases.{releases-elim}
 use Rattle.drive.specs.Calls.{Call, powerUp, securityIn, securityOut, write, unitReset, happens}
 use Rattle.drive.specs.Answers.{pageChecked, answer}
 use Rattle.drive.specs.After.{marksAfter, remarked, refused, registers, actions, told, alerted, flagged, accepted, actorOf, happened, cleared, after}
 use Rattle.drive.specs.declared.Actor.{Actor}
 use Rattle.drive.specs.declared.Actor.the-variants.{Acting}
 use Rattle.history.specs.History.{accepts}
-use Rattle.history.proofs.Lists.{read-same, read-map, read-mapFrom, same-length, find-same}
 use Rattle.history.proofs.Numbers.{numberAt}
 use Rattle.history.proofs.Pages.{supplemented-same, supplemental-actions, taken-supplemental, taken-whole}
 use Rattle.history.proofs.Steps.{view, Foreign}
@@ -219,12 +219,7 @@ foreign-page n m s page e =
 
 -- an event's releases
 foreign-releases : (n : ℕ) (picked : ℕ → Set → Bool) (l : List Set) → Foreign n (releases picked l)
-unfolding releases
-foreign-releases n picked l = from l 0
-  where
-    from : (l : List Set) (k : ℕ) → Foreign n (foldFrom (λ place set rest. pick (used set && picked place set) (release place ∷ rest) rest) [] k l)
-    from [] k = tt
-    from (x ∷ l) k = pick-elim (Foreign n) (used x && picked k x) (λ t. (refl, from l (suc k))) (λ t. from l (suc k))
+foreign-releases n = releases-elim (Foreign n) tt (λ place rest f. (refl, f))
 
 -- no action of such a call brings a LOCAL set of the nexus's
 pub after-foreign : (n : ℕ) (s : State) (call : Call) → accepts n s call ≡ false → Foreign n (actions s call)

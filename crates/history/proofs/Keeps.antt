@@ -8,6 +8,7 @@ use lib.Dec.{eqb, leb}
 use lib.ListN.{length, length-map}
 use Rattle.arrays.specs.Base.{pick, bit}
 use Rattle.arrays.specs.Arrays.{find, each, count}
+use Rattle.arrays.proofs.Laws.{read-same, read-map, foldFrom-map}
 use Rattle.answer.specs.Answers.{isDone}
 use Rattle.answer.specs.declared.Answer.the-variants.{NotWellFormed, NexusAbove, ChangedByAnotherNexus, ChangedByVendorEvent, NoPlaceForLocal}
 use Rattle.page.specs.Check.{checked}
@@ -26,7 +27,6 @@ use Rattle.drive.specs.Calls.{Call, powerUp, securityIn, securityOut, write, un
 use Rattle.drive.specs.Answers.{due, firstOf, isNoRoom, check5, check6, isInPage, isOutPage, eventCheck, heard, pageChecked, answer}
 use Rattle.drive.specs.After.{actions}
 use Rattle.history.specs.History.{mapped, accepts}
-use Rattle.history.proofs.Lists.{read-same, read-map, foldFrom-map}
 
 -- what two maps keep, of a set and of a nexus: what the rules read of them
 pub record Keeps (f : Set → Set) (g : Nexus → Nexus) : Type 0 where

@@ -1,4 +1,3 @@
-pub mod Lists
 pub mod Keeps
 pub mod Writes
 pub mod Moves

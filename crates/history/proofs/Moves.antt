@@ -9,6 +9,7 @@ use lib.ListN.{length, set, length-map}
 use Rattle.arrays.specs.Base.{pick}
 use Rattle.arrays.specs.Arrays.{mapFrom}
 use Rattle.arrays.proofs.Base.{cases, pick-map}
+use Rattle.arrays.proofs.Laws.{map-set, map-mapFrom, map-over, read-same}
 use Rattle.answer.specs.Answers.{isDone}
 use Rattle.answer.specs.declared.Answer.{Answer}
 use Rattle.page.specs.declared.Page.{Page}
@@ -28,9 +29,7 @@ use Rattle.drive.specs.After.{marksAfter, remarked, refused, registers, differs
 use Rattle.drive.specs.declared.Actor.{Actor}
 use Rattle.drive.specs.declared.Actor.the-variants.{Acting}
 use Rattle.history.specs.History.{mapped}
-use Rattle.history.proofs.Lists.{map-set, map-mapFrom, map-over}
 use Rattle.history.proofs.Writes.{refused-write}
-use Rattle.history.proofs.Lists as lists
 use Rattle.history.proofs.Keeps.{Keeps, carried}
 use Rattle.history.proofs.Keeps as keeps
 
@@ -77,11 +76,11 @@ module _ (c : ℕ → ℕ) (f : Set → Set) (g : Nexus → Nexus) (k : Keeps f 
 
   -- what is made of a nexus
   same-nexus : (n : ℕ) (s t : State) → Alike s t → g (nexusAt s n) ≡ g (nexusAt t n)
-  same-nexus n s t a = lists.read-same g (s .nexuses) (t .nexuses) newNexus (a .nexuses) n
+  same-nexus n s t a = read-same g (s .nexuses) (t .nexuses) newNexus (a .nexuses) n
 
   -- of a set
   same-set : (p : ℕ) (s t : State) → Alike s t → f (setAt s p) ≡ f (setAt t p)
-  same-set p s t a = lists.read-same f (s .sets) (t .sets) noSet (a .sets) p
+  same-set p s t a = read-same f (s .sets) (t .sets) noSet (a .sets) p
 
   -- and a nexus's marks
   same-marks : (x y : Nexus) → g x ≡ g y → x .marks ≡ y .marks

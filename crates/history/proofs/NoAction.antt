@@ -11,7 +11,7 @@ use lib.ListN.{getD}
 use borrow.Author.Tests.{eqb-true, eq-eqb, ne-eqb}
 use Rattle.arrays.specs.Base.{pick}
 use Rattle.arrays.specs.Arrays.{foldFrom, find}
-use Rattle.arrays.proofs.Base.{cases, clash, and-left, both, pick-elim, pick-same}
+use Rattle.arrays.proofs.Base.{cases, clash, and-left, both, pick-elim, pick-same, pick-true, pick-false, or-left-false}
 use Rattle.arrays.proofs.Laws.{find-by}
 use Rattle.answer.specs.Answers.{isDone}
 use Rattle.page.specs.declared.Fields.{Fields}
@@ -27,8 +27,6 @@ use Rattle.drive.specs.Calls.{Call, powerUp, securityIn, securityOut, write, un
 use Rattle.drive.specs.Answers.{pageChecked, answer}
 use Rattle.drive.specs.After.{actions}
 use Rattle.history.specs.History.{accepts, hits, Establishes}
-use Rattle.history.proofs.Core.{or-left-false}
-use Rattle.history.proofs.Lists.{pick-true, pick-false}
 use Rattle.history.proofs.Pages.{supplemental-actions}
 
 -- a supplemental key is no action

@@ -6,20 +6,20 @@ use mathlib.Core.List.{List, [], _∷_}
 use mathlib.Core.Path.{_≡_, refl, sym, _∙_, ap}
 use native.Mathlib.Omega.{arith}
 use lib.Dec.{eqb, ltb}
-use lib.ListN.{length, length-set}
+use lib.ListN.{length}
 use borrow.Author.Tests.{eqb-true, eq-eqb, ne-eqb, lt-ltb}
 use Rattle.arrays.specs.Base.{pick}
-use Rattle.arrays.proofs.Base.{cases, clash, pick-map}
+use Rattle.arrays.proofs.Base.{cases, clash, pick-map, or-left-false, or-right-false}
+use Rattle.arrays.proofs.Laws.{getD-set}
 use Rattle.device.specs.Record.{State, setAt, noSet}
 use Rattle.device.specs.Updates.{numbered}
 use Rattle.device.specs.Selecting.{selected}
 use Rattle.device.specs.declared.Set.{Set}
 use Rattle.device.proofs.Selecting.{selected-within}
 use Rattle.places.specs.Actions.{Action, drawn, act, acts}
+use Rattle.places.proofs.Lengths.{act-size}
 use Rattle.drive.specs.After.{differs}
 use Rattle.history.specs.History.{hits}
-use Rattle.history.proofs.Core.{or-left-false, or-right-false}
-use Rattle.history.proofs.Lists.{getD-set}
 
 -- that many more draws stay below the wrap
 abbrev pub Fits : State → ℕ → Type 0
@@ -45,11 +45,6 @@ module _ (s : State) (a : Action) where
   unfolding act
   act-set place = getD-set (s .sets) (a .place) place (numbered (drawn (s .counter)) (a .contents)) noSet
 
-  -- there are as many places
-  pub act-places : length (act s a .sets) ≡ length (s .sets)
-  unfolding act
-  act-places = length-set (s .sets) (a .place) _
-
   module _ (fits : Fits s 1) where
     step : drawn (s .counter) ≡ suc (s .counter)
     step = omega arith
@@ -74,12 +69,6 @@ acts-counter (a ∷ l) s fits =
     let c = act-counter s a (omega arith) in
     omega (arith, c, acts-counter l (act s a) (omega (arith, c)))
 
--- there are as many places
-pub acts-places : (l : List Action) (s : State) → length (acts s l .sets) ≡ length (s .sets)
-unfolding acts
-acts-places [] s = refl
-acts-places (a ∷ l) s = acts-places l (act s a) ∙ act-places s a
-
 -- a place that no action is on keeps its number
 pub missed : (l : List Action) (s : State) (place : ℕ) → Fits s (length l) → hits place l ≡ false → numberAt (acts s l) place ≡ numberAt s place
 unfolding acts hits
@@ -99,7 +88,7 @@ renewed (a ∷ l) s place within fits h =
     let c = act-counter s a one in
     let rest : Fits (act s a) (length l) = omega (arith, c) in
     cases (hits place l)
-    (λ t. let r = renewed l (act s a) place (rw (act-places s a) within) rest t in omega (arith, r, c))
+    (λ t. let r = renewed l (act s a) place (rw (act-size s a .places) within) rest t in omega (arith, r, c))
     (λ t.
     let here : eqb place (a .place) ≡ true = only t in
     let new : numberAt (act s a) place ≡ suc (s .counter) = act-number s a one place ∙ simp (here, there here) in

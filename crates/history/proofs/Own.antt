@@ -3,12 +3,12 @@
 use Prim.Native.Nat.{ℕ, _≤_, _<_}
 use mathlib.Core.Bool.{true, false}
 use mathlib.Core.Path.{_≡_, refl, sym, _∙_, ap, subst}
-use lib.ListN.{length, length-set}
+use lib.ListN.{length}
 use lib.Seq.{getD-set-same}
 use lib.Dec.{eqb}
 use borrow.Author.Tests.{eqb-true}
 use Rattle.arrays.specs.Base.{pick}
-use Rattle.arrays.proofs.Base.{and-left, pick-elim}
+use Rattle.arrays.proofs.Base.{and-left, pick-elim, pick-true}
 use Rattle.arrays.proofs.Laws.{find-by}
 use Rattle.page.specs.declared.Page.{Page}
 use Rattle.device.specs.Record.{State, setAt, nexusAt, noSet, newNexus, localScope}
@@ -18,13 +18,13 @@ use Rattle.device.specs.declared.Nexus.{Nexus}
 use Rattle.device.specs.declared.Found.the-variants.{At, Nowhere}
 use Rattle.device.proofs.Selecting.{selected-within}
 use Rattle.places.specs.Actions.{acts, pageActions, settledNexus, settled, taken}
+use Rattle.places.proofs.Lengths.{acts-size, settled-size}
 use Rattle.drive.specs.After.{registers, flagged, accepted}
 use Rattle.drive.specs.declared.Actor.the-variants.{Acting}
 use Rattle.history.proofs.Core.{Mark, View, Sound, settled-inv}
-use Rattle.history.proofs.Lists.{pick-true}
-use Rattle.history.proofs.Numbers.{Fits, numberAt, acts-places}
+use Rattle.history.proofs.Numbers.{Fits, numberAt}
 use Rattle.history.proofs.Pages.{taken-whole}
-use Rattle.history.proofs.Steps.{view, acts-size, acts-sound}
+use Rattle.history.proofs.Steps.{view, acts-sound}
 use Rattle.history.proofs.Inert.{Inert, inert-trans, registers-inert, flagged-inert}
 use Rattle.history.proofs.Good.{Good, inert-good}
 
@@ -81,18 +81,12 @@ module _ (n : ℕ) (page : Page) (e : State) (here : n < length (e .nexuses)) (s
 
   -- there is still a place
   settled-places : 0 < length (settled e n page .sets)
-  unfolding settled
-  settled-places = some
-
-  -- and it is still one of the nexuses
-  settled-here : n < length (settled e n page .nexuses)
-  unfolding settled
-  settled-here = rw length-set here
+  settled-places = rw (settled-size e n page .places) some
 
   -- the sender settled: what it saves is its set's number, if it locks
   settled-good : Good n (record { left = selected (settled e n page) n; touched = false }) (settled e n page)
   settled-good = record {
-    here = settled-here;
+    here = rw (settled-size e n page .nexuses) here;
     some = settled-places;
     inv = settled-inv (view n (settled e n page)) settled-sound (selected-within (settled e n page) n settled-places) settled-kept (selected-used (settled e n page) n);
   }
@@ -103,7 +97,7 @@ unfolding accepted
 accepted-good n m s page g w fits =
     let l = pageActions s n page in
     let e = acts s (pageActions s n page) in
-    let r = settled-good n page (acts s (pageActions s n page)) (rw (acts-size l s) (g .here)) (rw (acts-places l s) (g .some)) (acts-sound n l s fits (g .inv .sound)) in
+    let r = settled-good n page (acts s (pageActions s n page)) (rw (acts-size s l .nexuses) (g .here)) (rw (acts-size s l .places) (g .some)) (acts-sound n l s fits (g .inv .sound)) in
     let i : Inert n (settled e n page) (flagged (Acting n) s (registers (taken s n page) n)) =
     rw (taken-whole s n page w) (inert-trans n _ _ _ (registers-inert n n (settled e n page)) (flagged-inert n (Acting n) s (registers (settled e n page) n))) in
     rw (ap (λ (v : View). v .selected) (i .same)) (inert-good n _ _ _ i r)

@@ -5,7 +5,8 @@ use mathlib.Core.Bool.{true, false}
 use mathlib.Core.List.{[], map}
 use mathlib.Core.Path.{_≡_, refl, sym, _∙_, ap}
 use lib.Seq.{map-set-same}
-use Rattle.arrays.proofs.Base.{cases}
+use Rattle.arrays.proofs.Base.{cases, pick-true, pick-false}
+use Rattle.arrays.proofs.Laws.{read-same}
 use Rattle.page.specs.declared.Page.{Page}
 use Rattle.device.specs.Record.{State, setAt, noSet}
 use Rattle.device.specs.Updates.{withSupplemental}
@@ -13,7 +14,6 @@ use Rattle.device.specs.Selecting.{selected}
 use Rattle.device.specs.declared.Supplemental.{Supplemental}
 use Rattle.device.specs.declared.Set.{Set}
 use Rattle.places.specs.Actions.{acts, pageActions, settled, appended, supplemented, taken}
-use Rattle.history.proofs.Lists.{read-same, pick-true, pick-false}
 use Rattle.history.proofs.Numbers.{numberAt}
 
 -- a supplemental key keeps whatever else is read of the sets

@@ -9,7 +9,7 @@ use native.Mathlib.Omega.{arith}
 use lib.ListN.{length}
 use borrow.Author.Tests.{not-true}
 use Rattle.arrays.specs.Base.{pick}
-use Rattle.arrays.proofs.Base.{cases, and-left, and-right}
+use Rattle.arrays.proofs.Base.{cases, and-left, and-right, pick-true, pick-false}
 use Rattle.device.specs.Record.{State}
 use Rattle.device.specs.Selecting.{selected}
 use Rattle.device.specs.declared.Found.{Found}
@@ -17,7 +17,6 @@ use Rattle.device.specs.declared.Found.the-variants.{At, Nowhere}
 use Rattle.drive.specs.Calls.{Call}
 use Rattle.drive.specs.After.{actions, after}
 use Rattle.history.specs.History.{struck, traceFrom, accepts, hits, silent, acted, firstActed, First, Trail, earlier, isFound, followed, trailFrom}
-use Rattle.history.proofs.Lists.{pick-true, pick-false}
 use Rattle.history.proofs.Strike.{selected-struck}
 
 -- two histories, one after the other

@@ -6,6 +6,7 @@ use mathlib.Core.Path.{_≡_, refl, sym, _∙_, ap, ap₂}
 use native.Mathlib.Omega.{arith}
 use lib.Dec.{eqb}
 use lib.ListN.{length, length-map, List·getD-map}
+use Rattle.arrays.proofs.Laws.{read-map}
 use Rattle.device.specs.Record.{State, noSet}
 use Rattle.device.specs.Updates.{numbered, withSupplemental}
 use Rattle.device.specs.Selecting.{selected}
@@ -17,7 +18,6 @@ use Rattle.drive.specs.Calls.{Call, powerUp, securityIn, securityOut, write, un
 use Rattle.drive.specs.Answers.{pageChecked}
 use Rattle.drive.specs.After.{registers, actions, differs, after}
 use Rattle.history.specs.History.{mapped, bareNexus, struck, accepts, hits}
-use Rattle.history.proofs.Lists.{read-map}
 use Rattle.history.proofs.Numbers.{numberAt, Low, differs-hits}
 use Rattle.history.proofs.Pages.{taken-number}
 use Rattle.history.proofs.Keeps.{Keeps, good-kept, carried, carried-out, selected-kept, carried-kept, actions-kept, accepts-kept}

@@ -2,15 +2,15 @@
 -- Assumes nothing.
 use Prim.Native.Nat.{ℕ}
 use mathlib.Core.Bool.{Bool, true, false, not, _&&_}
-use mathlib.Core.List.{List, [], _∷_, _++_}
+use mathlib.Core.List.{[], _∷_}
 use mathlib.Core.Path.{_≡_, refl, sym, _∙_, ap}
 use lib.Dec.{eqb}
 use lib.ListN.{set}
-use Rattle.arrays.specs.Base.{pick}
-use Rattle.arrays.proofs.Base.{cases, clash}
-use Rattle.answer.specs.Answers.{numberOf, isDone}
+use Rattle.arrays.proofs.Base.{cases}
+use Rattle.answer.specs.Answers.{numberOf}
 use Rattle.answer.specs.declared.Answer.{Answer}
-use Rattle.answer.specs.declared.Answer.the-variants.{Done, NotWellFormed, NexusAbove, ChangedByAnotherNexus, ChangedByVendorEvent, ProtocolNotSupported, PageNotSupported, PageLengthWrong, FieldWrong, FifthSupplementalKey, NoPlaceForLocal, KeyInstanceChanged, ParametersNotUsable, PlaceAbove}
+use Rattle.answer.specs.declared.Answer.the-variants.{KeyInstanceChanged, ParametersNotUsable}
+use Rattle.answer.proofs.Numbers.{done-is}
 use Rattle.page.specs.Fields.{encrypts}
 use Rattle.device.specs.Record.{State, nexusAt}
 use Rattle.device.specs.Selecting.{selectedSet}
@@ -19,35 +19,8 @@ use Rattle.device.specs.declared.Marks.{Marks}
 use Rattle.drive.specs.Calls.{write}
 use Rattle.drive.specs.Answers.{due, firstOf, heard, check11, check12, answer}
 use Rattle.drive.specs.After.{marksAfter, refused}
+use Rattle.drive.proofs.Checks.{first-stops, first-passes}
 use Rattle.history.specs.History.{isHeard, isStopped}
-use Rattle.history.proofs.Lists.{pick-true, pick-false}
-
--- answer 0 is Done
-pub done-is : (a : Answer) → isDone a ≡ true → a ≡ Done
-done-is Done e = refl
-done-is NotWellFormed e = clash e refl
-done-is NexusAbove e = clash e refl
-done-is ChangedByAnotherNexus e = clash e refl
-done-is ChangedByVendorEvent e = clash e refl
-done-is ProtocolNotSupported e = clash e refl
-done-is PageNotSupported e = clash e refl
-done-is PageLengthWrong e = clash e refl
-done-is FieldWrong e = clash e refl
-done-is FifthSupplementalKey e = clash e refl
-done-is NoPlaceForLocal e = clash e refl
-done-is KeyInstanceChanged e = clash e refl
-done-is ParametersNotUsable e = clash e refl
-done-is PlaceAbove e = clash e refl
-
--- one more check before them
-joined : (b : Bool) (a x y z : Answer) → isDone a ≡ b → x ≡ pick (isDone y) z y → pick b x a ≡ pick (isDone (pick b y a)) z (pick b y a)
-joined true a x y z e h = h
-joined false a x y z e h = sym (pick-false (isDone a) z a e)
-
--- the first of two lists of checks that isn't 0
-pub firstOf-append : (l m : List Answer) → firstOf (l ++ m) ≡ pick (isDone (firstOf l)) (firstOf m) (firstOf l)
-firstOf-append [] m = refl
-firstOf-append (a ∷ l) m = joined (isDone a) a (firstOf (l ++ m)) (firstOf l) (firstOf m) refl (firstOf-append l m)
 
 -- whether answer 11 is due
 abbrev pub stopped : State → ℕ → Bool
@@ -73,22 +46,26 @@ module _ (s : State) (n : ℕ) (supported : Bool) where
   abbrev unusable : Bool
   unusable = encrypts (selectedSet s n .fields .encryption) && not supported
 
-  -- checks 1 to 4 come first
-  answer-is : answer s (write n supported) ≡ pick (isHeard s n) (own (stopped s n) unusable) (firstOf (heard s n))
+  -- a write that passes checks 1 to 4 is answered by its own
+  own-answer : isHeard s n ≡ true → answer s (write n supported) ≡ own (stopped s n) unusable
   unfolding answer
-  answer-is = firstOf-append (heard s n) (check11 s n ∷ check12 s n supported ∷ [])
+  own-answer = first-passes (heard s n) (check11 s n ∷ check12 s n supported ∷ [])
+
+  -- another by checks 1 to 4
+  first-answer : isHeard s n ≡ false → answer s (write n supported) ≡ firstOf (heard s n)
+  unfolding answer
+  first-answer = first-stops (heard s n) (check11 s n ∷ check12 s n supported ∷ [])
 
   -- a write that passes checks 1 to 4 is answered 11 exactly if check 11 finds a fault
   pub heard-eleven : isHeard s n ≡ true → isStopped s n supported ≡ stopped s n
-  heard-eleven h = ap (λ a. eqb (numberOf a) 11) (answer-is ∙ pick-true _ _ _ h) ∙ own-eleven (stopped s n) unusable
+  heard-eleven h = ap (λ a. eqb (numberOf a) 11) (own-answer h) ∙ own-eleven (stopped s n) unusable
 
   -- and they alone change a mark
   marks-are : (marks : Marks) → marksAfter (answer s (write n supported)) marks ≡ marksAfter (firstOf (heard s n)) marks
   marks-are marks =
-      ap (λ a. marksAfter a marks) answer-is
-      ∙ cases (isHeard s n)
-      (λ t. ap (λ a. marksAfter a marks) (pick-true _ _ _ t) ∙ own-marks (stopped s n) unusable marks ∙ ap (λ a. marksAfter a marks) (sym (done-is (firstOf (heard s n)) t)))
-      (λ t. ap (λ a. marksAfter a marks) (pick-false _ _ _ t))
+      cases (isHeard s n)
+      (λ t. ap (λ a. marksAfter a marks) (own-answer t) ∙ own-marks (stopped s n) unusable marks ∙ ap (λ a. marksAfter a marks) (sym (done-is (firstOf (heard s n)) t)))
+      (λ t. ap (λ a. marksAfter a marks) (first-answer t))
 
   -- a write changes the record by checks 1 to 4 alone
   pub refused-write : refused s n (answer s (write n supported)) ≡ refused s n (firstOf (heard s n))

@@ -7,7 +7,7 @@ use native.Mathlib.Omega.{arith}
 use borrow.Author.Tests.{eqb-true, eqb-false, eq-eqb}
 use lib.Dec.{eqb}
 use Rattle.arrays.specs.Base.{pick}
-use Rattle.arrays.proofs.Base.{cases, both, pick-map, pick-same}
+use Rattle.arrays.proofs.Base.{cases, both, pick-map, pick-same, same-truth}
 use Rattle.device.specs.Record.{State, setAt, nexusAt, publicScope, localScope, allScope}
 use Rattle.device.specs.Selecting.{owns, selected}
 use Rattle.device.specs.WellFormed.{wellFormed}
@@ -16,7 +16,6 @@ use Rattle.device.proofs.Selecting.{selected-shared, selected-local, selected-o
 use Rattle.device.proofs.WellFormed.{nexus-at}
 use Rattle.device.specs.Updates.{withScope}
 use Rattle.places.specs.Actions.{freed}
-use Rattle.kept.proofs.Lists.{same-truth}
 
 -- the nexus is LOCAL and owns the place, or is ALL and the place is 0
 abbrev pub loses : State → ℕ → ℕ → Bool

@@ -1,6 +1,6 @@
 -- Taking an accepted page, and releasing sets by an event, leave a well-formed record well formed.
 -- Assumes nothing.
-use Prim.Native.Nat.{ℕ, _+_, _*_, _≤_, _<_}
+use Prim.Native.Nat.{ℕ, zero, suc, _+_, _*_, _≤_, _<_}
 use mathlib.Core.Path.{_≡_, refl, sym, ap, subst, _∙_}
 use mathlib.Core.Bool.{Bool, true, false, not}
 use mathlib.Core.List.{List, [], _∷_}
@@ -11,9 +11,10 @@ use lib.ListN.{length, getD, set, drop, length-set, List·getD-eq-default}
 use lib.Seq.{sets, set-out, drop-drop}
 use Rattle.arrays.specs.Base.{bit}
 use Rattle.arrays.specs.Arrays.{mapFrom, count, find}
-use Rattle.arrays.proofs.Base.{cases, clash, and-left, and-right, pick-elim}
-use Rattle.arrays.proofs.Laws.{find-by, length-mapFrom, getD-mapFrom}
+use Rattle.arrays.proofs.Base.{cases, clash, and-left, and-right, pick-elim, same-truth}
+use Rattle.arrays.proofs.Laws.{find-by, length-mapFrom, getD-mapFrom, getD-set-by, drop-sets}
 use Rattle.wire.specs.Buffers.{allZero}
+use Rattle.wire.proofs.Zeros.{all-zero-rest}
 use Rattle.kad.specs.Kad.{tailsGood}
 use Rattle.page.specs.Fields.{keySize}
 use Rattle.page.specs.Check.{supplementalMost}
@@ -34,17 +35,17 @@ use Rattle.device.specs.Updates.{withScope, withSupplemental, withNexuses, atNe
 use Rattle.places.specs.Actions.{Action, release, establish, act, acts, releases, ownPlace, releaseFound, releaseOwn, emptyLocal, unlockedLocal, freeAt, takenAt, room, establishIn, pageActions, settledNexus, settled, appended, supplemented, taken}
 use Rattle.places.specs.declared.Room.{Room}
 use Rattle.places.specs.declared.Room.the-variants.{Free, Taken, NoRoom}
-use Rattle.kept.proofs.Lists.{same-truth, getD-set-by, drop-sets, zero-rest}
-use Rattle.kept.proofs.Steps.{acts-append, releases-by}
-use Rattle.kept.proofs.Near.{none, only, held, Near, near-of, near-well, owns-used, owned, Proper, act-nexuses, act-places, act-set-by, act-count, act-near, release-near, set-near}
+use Rattle.places.proofs.Lengths.{act-size, acts-size}
+use Rattle.places.proofs.Releases.{acts-append}
+use Rattle.kept.proofs.Steps.{releases-by}
+use Rattle.kept.proofs.Near.{none, only, held, Near, near-of, near-well, owns-used, owned, Proper, act-set-by, act-count, act-near, release-near, set-near}
 
 -- ---- releases
 
 -- releasing the used places that any test picks leaves a well-formed record well formed
 pub releases-kept : (picked : ℕ → Set → Bool) (s : State) → wellFormed s ≡ true → wellFormed (acts s (releases picked (s .sets))) ≡ true
-unfolding releases
 releases-kept picked s w =
-    near-well (acts s (releases picked (s .sets))) (releases-by (Near none) (release-near none) picked (s .sets) 0 s (near-of none s w))
+    near-well (acts s (releases picked (s .sets))) (releases-by (Near none) (release-near none) picked (s .sets) s (near-of none s w))
 
 -- ---- marks
 
@@ -224,7 +225,7 @@ local-ready s n place fields here f h v =
     let new : bit (owns n (established n localScope 0 fields)) ≡ 1 = ap bit (eq-eqb n n refl) in
     record {
       near = act-near s (establish place n localScope fields) (only n) h (set-proper s n place localScope fields here f (place-local place (v .later)));
-      here = subst (λ (k : ℕ). n < k) (sym (act-nexuses s (establish place n localScope fields))) here;
+      here = subst (λ (k : ℕ). n < k) (sym (act-size s (establish place n localScope fields) .nexuses)) here;
       local = λ e. omega (arith, act-count s (establish place n localScope fields) n (v .within), v .others, new);
       shared = λ e. absurd (e refl);
       all = λ e. absurd (omega (arith, e));
@@ -235,18 +236,16 @@ all-ready : (s : State) (n : ℕ) (fields : Fields) → n < length (s .nexuses) 
 all-ready s n fields here some f h z =
     record {
       near = act-near s (establish 0 n allScope fields) (only n) h (set-proper s n 0 allScope fields here f refl);
-      here = subst (λ (k : ℕ). n < k) (sym (act-nexuses s (establish 0 n allScope fields))) here;
+      here = subst (λ (k : ℕ). n < k) (sym (act-size s (establish 0 n allScope fields) .nexuses)) here;
       local = λ e. absurd (omega (arith, e));
       shared = λ e. omega (arith, act-count s (establish 0 n allScope fields) n some, z);
       all = λ e. act-set-by s (establish 0 n allScope fields) (λ (x : Set). (used x ≡ true) × (x .owner ≡ n)) 0 some (λ q. (refl, refl)) (λ q. clash refl q);
     }
 
 -- the nexus's own place released, if any: it owns none
-record Dropped (s : State) (n : ℕ) (e : State) : Type 0 where
+record Dropped (n : ℕ) (e : State) : Type 0 where
   near : Near (only n) e
   gone : held n e ≡ 0
-  nexuses : length (e .nexuses) ≡ length (s .nexuses)
-  places : length (e .sets) ≡ length (s .sets)
 
 -- a release leaves the nexus the places that it owned before, but for that one
 release-count : (s : State) (n place : ℕ) → place < length (s .sets) → held n s ≡ bit (owns n (setAt s place)) → held n (act s (release place)) ≡ 0
@@ -254,17 +253,15 @@ release-count s n place l c = omega (arith, act-count s (release place) n l, c)
 
 module _ (s : State) (w : wellFormed s ≡ true) (n : ℕ) (here : n < length (s .nexuses)) where
   -- the sender's own place released, if any
-  own-dropped : Dropped s n (acts s (releaseOwn s n))
+  own-dropped : Dropped n (acts s (releaseOwn s n))
   unfolding acts
   own-dropped =
-      own-by s w n (λ f. Dropped s n (acts s (releaseFound f)))
+      own-by s w n (λ f. Dropped n (acts s (releaseFound f)))
       (λ k l z o c. record {
         near = release-near (only n) s k (near-of (only n) s w);
         gone = release-count s n k l (c ∙ sym (ap bit o));
-        nexuses = act-nexuses s (release k);
-        places = act-places s (release k);
       })
-      (λ z. record { near = near-of (only n) s w; gone = z; nexuses = refl; places = refl })
+      (λ z. record { near = near-of (only n) s w; gone = z })
 
   -- LOCAL: a place of its own, an empty one, or one first released
   room-ready : (fields : Fields) → SetFit fields → (r : Room) → (r ≡ NoRoom → ⊥) → RoomFit s n r → Ready n localScope (acts s (establishIn r n fields))
@@ -272,9 +269,9 @@ module _ (s : State) (w : wellFormed s ≡ true) (n : ℕ) (here : n < length (s
   room-ready fields f (Free place) ne v = local-ready s n place fields here f (near-of (only n) s w) v
   room-ready fields f (Taken place) ne v =
       let gone : held n (act s (release place)) ≡ 0 = release-count s n place (v .0 .within) (v .0 .others) in
-      local-ready (act s (release place)) n place fields (subst (λ (k : ℕ). n < k) (sym (act-nexuses s (release place))) here) f (release-near (only n) s place (near-of (only n) s w))
+      local-ready (act s (release place)) n place fields (subst (λ (k : ℕ). n < k) (sym (act-size s (release place) .nexuses)) here) f (release-near (only n) s place (near-of (only n) s w))
       (record {
-        within = subst (λ (k : ℕ). place < k) (sym (act-places s (release place))) (v .0 .within);
+        within = subst (λ (k : ℕ). place < k) (sym (act-size s (release place) .places)) (v .0 .within);
         later = v .0 .later;
         others = gone ∙ act-set-by s (release place) (λ (x : Set). 0 ≡ bit (owns n x)) place (v .0 .within) (λ q. refl) (λ q. clash (eq-eqb place place refl) q);
       })
@@ -296,16 +293,22 @@ module _ (s : State) (w : wellFormed s ≡ true) (n : ℕ) (here : n < length (s
       let e : page .scope ≡ allScope = eqb-true _ _ t in
       subst (λ (x : State). Ready n (page .scope) x) (sym (acts-append s (releaseOwn s n) (establish 0 n allScope (page .fields) ∷ [])))
       (subst (λ (k : ℕ). Ready n k (act (acts s (releaseOwn s n)) (establish 0 n allScope (page .fields)))) (sym e)
-      (all-ready (acts s (releaseOwn s n)) n (page .fields) (omega (arith, own-dropped .nexuses)) (omega (arith, own-dropped .places)) (fit .fields plain (omega (arith, e))) (own-dropped .near) (own-dropped .gone))))
+      (all-ready (acts s (releaseOwn s n)) n (page .fields) (omega (arith, acts-size s (releaseOwn s n) .nexuses)) (omega (arith, acts-size s (releaseOwn s n) .places)) (fit .fields plain (omega (arith, e))) (own-dropped .near) (own-dropped .gone))))
       (λ g. record {
         near = own-dropped .near;
-        here = omega (arith, own-dropped .nexuses);
+        here = omega (arith, acts-size s (releaseOwn s n) .nexuses);
         local = λ e. absurd (eqb-false _ _ f e);
         shared = λ e. own-dropped .gone;
         all = λ e. absurd (eqb-false _ _ g e);
       })))
 
 -- ---- a supplemental key
+
+-- the rest of zeros are zeros
+zero-rest : (n : ℕ) (l : List ℕ) → allZero l ≡ true → allZero (drop n l) ≡ true
+zero-rest zero l z = z
+zero-rest (suc n) [] z = refl
+zero-rest (suc n) (b ∷ l) z = zero-rest n l (all-zero-rest b l z)
 
 -- a key stored after the others leaves zeros past it
 extended-past : (key : List ℕ) (x : Supplemental) → length key ≡ keySize → keysPast x ≡ true → allZero (drop ((x .count + 1) * keySize) (sets (x .keys) (x .count * keySize) key)) ≡ true

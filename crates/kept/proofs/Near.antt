@@ -3,7 +3,6 @@
 use Prim.Native.Nat.{ℕ, _+_, _≤_, _<_}
 use mathlib.Core.Path.{_≡_, refl, sym, ap, subst, _∙_}
 use mathlib.Core.Bool.{Bool, true, false, not}
-use native.Mathlib.Nat.{zero-add}
 use native.Mathlib.Omega.{arith}
 use borrow.Author.Tests.{eqb-true, eq-eqb, ltb-true, ltb-false}
 use lib.Dec.{eqb, ltb}
@@ -11,20 +10,21 @@ use lib.ListN.{length, set, length-set}
 use lib.Seq.{set-out}
 use Rattle.arrays.specs.Base.{pick, bit}
 use Rattle.arrays.specs.Arrays.{count}
-use Rattle.arrays.proofs.Base.{cases, clash, both, and-left, and-right, pick-same}
-use Rattle.arrays.proofs.Laws.{length-mapFrom, getD-mapFrom-kept}
+use Rattle.arrays.proofs.Base.{cases, clash, both, and-left, and-right}
+use Rattle.arrays.proofs.Laws.{getD-set-by}
 use Rattle.device.specs.Record.{State, setAt, nexusAt, noSet, newNexus, used, publicScope, localScope, allScope}
 use Rattle.device.specs.Selecting.{owns, ownedPlace, orElse, selected}
 use Rattle.device.specs.WellFormed.{setGood, hasAll, wellFormed}
 use Rattle.device.specs.declared.Set.{Set}
 use Rattle.device.specs.declared.Nexus.{Nexus}
 use Rattle.device.specs.declared.Found.the-variants.{At, Nowhere}
-use Rattle.arrays.proofs.Counting.{count-set, count-unique, find-counted}
+use Rattle.arrays.proofs.Counting.{count-set, count-unique, count-one, find-counted}
 use Rattle.device.proofs.Selecting.{selected-own, selected-shared}
 use Rattle.device.proofs.WellFormed.{GoodNexus, nexus-good, good-set, empty-good, owner-local, place-local, well, well-formed, used-within, nexus-at, owner-at}
 use Rattle.device.specs.Updates.{withScope, numbered, withSets}
-use Rattle.places.specs.Actions.{Action, drawn, freed, release, act}
-use Rattle.kept.proofs.Lists.{getD-set-by, count-one}
+use Rattle.places.specs.Actions.{Action, drawn, release, act}
+use Rattle.places.proofs.Lengths.{act-size}
+use Rattle.places.proofs.Releases.{act-nexus}
 
 -- no nexus is left out
 abbrev pub none : ℕ → Bool
@@ -97,23 +97,6 @@ pub record Proper (out : ℕ → Bool) (s : State) (a : Action) : Type 0 where
   pub mine : used (a .contents) ≡ true → out (a .contents .owner) ≡ true
 
 module _ (s : State) (a : Action) where
-  -- each nexus is as it was, or freed
-  pub act-nexus : (i : ℕ) → nexusAt (act s a) i ≡ freed s (a .place) i (nexusAt s i)
-  unfolding act
-  act-nexus i =
-      getD-mapFrom-kept (freed s (a .place)) newNexus (λ j. pick-same (eqb (selected s j) (a .place)) newNexus) 0 (s .nexuses) i
-      ∙ ap (λ (k : ℕ). freed s (a .place) k (nexusAt s i)) (zero-add i)
-
-  -- there are as many nexuses
-  pub act-nexuses : length ((act s a) .nexuses) ≡ length (s .nexuses)
-  unfolding act
-  act-nexuses = length-mapFrom (freed s (a .place)) 0 (s .nexuses)
-
-  -- and as many places
-  pub act-places : length ((act s a) .sets) ≡ length (s .sets)
-  unfolding act
-  act-places = length-set (s .sets) (a .place) (numbered (drawn (s .counter)) (a .contents))
-
   -- the place changed has the new contents, another what it had
   pub act-set-by : (P : Set → Type 0) (place : ℕ) → place < length (s .sets) → (place ≡ a .place → P (numbered (drawn (s .counter)) (a .contents))) → (eqb place (a .place) ≡ false → P (setAt s place)) → P (setAt (act s a) place)
   unfolding act
@@ -132,13 +115,13 @@ module _ (s : State) (a : Action) where
 
   -- a nexus that uses another place stays as it is
   pub stays : (i : ℕ) → eqb (selected s i) (a .place) ≡ false → nexusAt (act s a) i ≡ nexusAt s i
-  stays i e = act-nexus i ∙ ap (λ (b : Bool). pick b (withScope publicScope (nexusAt s i)) (nexusAt s i)) e
+  stays i e = act-nexus s a i ∙ ap (λ (b : Bool). pick b (withScope publicScope (nexusAt s i)) (nexusAt s i)) e
 
   -- one that is not PUBLIC afterwards uses another place
   pub elsewhere : (i : ℕ) → 0 < nexusAt (act s a) i .scope → eqb (selected s i) (a .place) ≡ false
   elsewhere i h =
       cases (eqb (selected s i) (a .place))
-      (λ e. let z : nexusAt (act s a) i .scope ≡ 0 = ap (λ (x : Nexus). x .scope) (act-nexus i ∙ ap (λ (b : Bool). pick b (withScope publicScope (nexusAt s i)) (nexusAt s i)) e) in
+      (λ e. let z : nexusAt (act s a) i .scope ≡ 0 = ap (λ (x : Nexus). x .scope) (act-nexus s a i ∙ ap (λ (b : Bool). pick b (withScope publicScope (nexusAt s i)) (nexusAt s i)) e) in
       absurd (omega (arith, z)))
       (λ e. e)
 
@@ -185,7 +168,7 @@ module _ (s : State) (a : Action) where
     act-owner : (place : ℕ) → 0 < place → used (setAt (act s a) place) ≡ true → out (setAt (act s a) place .owner) ≡ false → nexusAt (act s a) (setAt (act s a) place .owner) .scope ≡ localScope
     act-owner place z u =
         act-set-by (λ (x : Set). used x ≡ true → out (x .owner) ≡ false → nexusAt (act s a) (x .owner) .scope ≡ localScope) place
-        (subst (λ (k : ℕ). place < k) act-places (used-within (act s a) place u))
+        (subst (λ (k : ℕ). place < k) (act-size s a .places) (used-within (act s a) place u))
         (λ q v o. clash (c .mine v) o)
         (λ f v o.
         let was : nexusAt s (setAt s place .owner) .scope ≡ localScope = h .owners place z v o in
@@ -197,8 +180,8 @@ module _ (s : State) (a : Action) where
     act-good : (place : ℕ) → place < length ((act s a) .sets) → setGood (length ((act s a) .nexuses)) place (setAt (act s a) place) ≡ true
     unfolding setGood
     act-good place l =
-        let within : place < length (s .sets) = subst (λ (k : ℕ). place < k) act-places l in
-        subst (λ (k : ℕ). setGood k place (setAt (act s a) place) ≡ true) (sym act-nexuses)
+        let within : place < length (s .sets) = subst (λ (k : ℕ). place < k) (act-size s a .places) l in
+        subst (λ (k : ℕ). setGood k place (setAt (act s a) place) ≡ true) (sym (act-size s a .nexuses))
         (act-set-by (λ (x : Set). setGood (length (s .nexuses)) place x ≡ true) place within
         (λ q. subst (λ (k : ℕ). setGood (length (s .nexuses)) k (a .contents) ≡ true) (sym q) (c .good (omega (arith, q))))
         (λ f. h .sets place within))

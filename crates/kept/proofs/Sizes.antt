@@ -11,7 +11,7 @@ use lib.ListN.{length, getD, set, length-set, List·getD-eq-default}
 use lib.Seq.{sets, length-sets}
 use Rattle.arrays.specs.Arrays.{mapFrom}
 use Rattle.arrays.proofs.Base.{cases, pick-elim}
-use Rattle.arrays.proofs.Laws.{length-mapFrom, getD-mapFrom}
+use Rattle.arrays.proofs.Laws.{length-mapFrom, getD-mapFrom, getD-set-by}
 use Rattle.kad.specs.Kad as kad
 use Rattle.page.specs.Fields.{keySize}
 use Rattle.page.specs.Check.{supplementalMost}
@@ -24,7 +24,6 @@ use Rattle.device.specs.declared.Set.{Set}
 use Rattle.device.specs.declared.Nexus.{Nexus}
 use Rattle.device.specs.Updates.{withScope, numbered, withSupplemental, atNexus}
 use Rattle.places.specs.Actions.{Action, drawn, freed, release, establish, act, acts, releases, settledNexus, settled, appended, supplemented, taken}
-use Rattle.kept.proofs.Lists.{getD-set-by}
 use Rattle.kept.proofs.Steps.{releases-by, taken-by}
 
 -- ---- what holds of each element of a list
@@ -98,8 +97,7 @@ supplemented-sized s n page h =
 
 -- releases by an event keep the sizes
 pub releases-sized : (picked : ℕ → Set → Bool) (s : State) → Sized s → Sized (acts s (releases picked (s .sets)))
-unfolding releases
-releases-sized picked s = releases-by Sized release-sized picked (s .sets) 0 s
+releases-sized picked s = releases-by Sized release-sized picked (s .sets) s
 
 -- an accepted page whose key and key-associated data have their sizes keeps the sizes
 pub taken-sized : (s : State) (n : ℕ) (page : Page) → SizedFields (page .fields) → Sized s → Sized (taken s n page)
@@ -167,8 +165,7 @@ supplemented-words s n page h =
 
 -- releases by an event keep the numbers within 32 bits
 pub releases-words : (picked : ℕ → Set → Bool) (s : State) → Words s → Words (acts s (releases picked (s .sets)))
-unfolding releases
-releases-words picked s = releases-by Words (λ x place. act-words x (release place)) picked (s .sets) 0 s
+releases-words picked s = releases-by Words (λ x place. act-words x (release place)) picked (s .sets) s
 
 -- an accepted page keeps the numbers within 32 bits
 pub taken-words : (s : State) (n : ℕ) (page : Page) → Words s → Words (taken s n page)

@@ -2,19 +2,21 @@
 -- Assumes nothing.
 use Prim.Native.Nat.{ℕ, suc, _+_}
 use mathlib.Core.Path.{_≡_, refl, sym, ap, _∙_}
-use mathlib.Core.Bool.{Bool, true, false}
+use mathlib.Core.Bool.{Bool}
 use mathlib.Core.List.{List, [], _∷_, _++_}
 use native.Mathlib.Nat.{zero-add, add-zero, add-suc, suc-add}
-use native.Mathlib.Numerals.{add-one}
 use native.Mathlib.Omega.{arith}
-use lib.ListN.{length, getD, drop}
-use lib.Seq.{getD-drop, drop-drop, drop-set-lt}
+use lib.Dec.{eqb}
+use lib.ListN.{length, drop}
+use lib.Seq.{drop-set-lt}
 use Rattle.arrays.specs.Base.{pick}
 use Rattle.arrays.specs.Arrays.{foldFrom, runs}
-use Rattle.arrays.proofs.Base.{cases}
-use Rattle.device.specs.Record.{State, noSet, setAt}
+use Rattle.arrays.proofs.Base.{cases, pick-elim, pick-same}
+use Rattle.arrays.proofs.Laws.{getD-mapFrom-kept, first-of, rest-of}
+use Rattle.device.specs.Record.{State, noSet, newNexus, setAt, nexusAt}
+use Rattle.device.specs.Selecting.{selected}
 use Rattle.device.specs.declared.Set.{Set}
-use Rattle.places.specs.Actions.{Action, release, act, acts, due, releases, releaseStep}
+use Rattle.places.specs.Actions.{Action, freed, release, act, acts, due, releases, releaseStep}
 
 -- one list of actions, then another
 pub acts-append : (s : State) (a b : List Action) → acts s (a ++ b) ≡ acts (acts s a) b
@@ -22,24 +24,26 @@ unfolding acts
 acts-append s [] b = refl
 acts-append s (x ∷ a) b = acts-append (act s x) a b
 
+-- each nexus is as it was, or freed
+pub act-nexus : (s : State) (a : Action) (n : ℕ) → nexusAt (act s a) n ≡ freed s (a .place) n (nexusAt s n)
+unfolding act
+act-nexus s a n =
+    getD-mapFrom-kept (freed s (a .place)) newNexus (λ i. pick-same (eqb (selected s i) (a .place)) newNexus) 0 (s .nexuses) n
+    ∙ ap (λ (i : ℕ). freed s (a .place) i (nexusAt s n)) (zero-add n)
+
+-- what holds of no action, and stays with one more release before the others, holds of the releases that a test picks
+pub releases-elim : (P : List Action → Type 0) → P [] → ((place : ℕ) (rest : List Action) → P rest → P (release place ∷ rest)) → (picked : ℕ → Set → Bool) (l : List Set) → P (releases picked l)
+unfolding releases
+releases-elim P none more picked l = from l 0
+  where
+    from : (l : List Set) (k : ℕ) → P (foldFrom (λ place set rest. pick (due picked place set) (release place ∷ rest) rest) [] k l)
+    from [] k = none
+    from (x ∷ l) k = pick-elim P (due picked k x) (λ t. more k _ (from l (suc k))) (λ f. from l (suc k))
+
 -- an action on a place leaves the places after it
 act-later : (s : State) (a : Action) → drop (suc (a .place)) (act s a .sets) ≡ drop (suc (a .place)) (s .sets)
 unfolding act
 act-later s a = drop-set-lt (suc (a .place)) (s .sets) (a .place) _ (omega arith)
-
--- what stands first of the rest of a list, and what is left then
-first-of : (l : List Set) (k : ℕ) (x : Set) (xs : List Set) → drop k l ≡ x ∷ xs → getD l k noSet ≡ x
-first-of l k x xs e = rw add-zero at (sym (getD-drop k l 0 noSet)) ∙ ap (λ (r : List Set). getD r 0 noSet) e
-
-rest-of : (l : List Set) (k : ℕ) (x : Set) (xs : List Set) → drop k l ≡ x ∷ xs → drop (suc k) l ≡ xs
-rest-of l k x xs e = rw add-one at (sym (drop-drop 1 k l)) ∙ ap (drop 1) e
-
--- what a test that passes picks, and one that fails
-pub pick-first : {A : Type 0} {b : Bool} (x y : A) → b ≡ true → pick b x y ≡ x
-pick-first x y e = rw e refl
-
-pub pick-second : {A : Type 0} {b : Bool} (x y : A) → b ≡ false → pick b x y ≡ y
-pick-second x y e = rw e refl
 
 module _ (test : ℕ → Set → Bool) where
   -- the releases of the places that pass a test, from a place on
@@ -65,7 +69,7 @@ module _ (test : ℕ → Set → Bool) where
   steps-from s [] k e = rw add-zero refl
   steps-from s (x ∷ xs) k e =
       let t = runs step k s in
-      step-first k t x xs (first-of (t .sets) k x xs e)
+      step-first k t x xs (first-of (t .sets) k x xs noSet e)
       ∙ steps-from s xs (suc k) (step-later k t ∙ rest-of (t .sets) k x xs e)
       ∙ ap (λ (n : ℕ). runs step n s) (suc-add k (length xs) ∙ sym (add-suc k (length xs)))
 

@@ -1,8 +1,8 @@
 use borrow.Author.Needs.{needs}
 use mathlib.Core.Path.{sym, ap, _∙_}
+use Rattle.arrays.proofs.Base.{pick-true, pick-false}
 use Rattle.device.specs.Record.{state, device}
 use Rattle.places.specs.Actions.{release, act}
-use Rattle.places.proofs.Releases.{pick-first, pick-second}
 use Rattle.places.proofs.release_step.Statement.{statement}
 use Rattle.places.proofs.release_step.Tie as tie
 
@@ -17,8 +17,8 @@ release-step-spec =
     (λ c.
     let tested = c .before .before in
     let a = tested .before .before .before .args in
-    c .release .ensures ∙ ap device (sym (pick-first (act (state (a .t1)) (release (a .place))) (state (a .t1)) (rw (tested .is-released .ensures) at (c .before .if1 .taken)))))
+    c .release .ensures ∙ ap device (sym (pick-true _ (act (state (a .t1)) (release (a .place))) (state (a .t1)) (rw (tested .is-released .ensures) at (c .before .if1 .taken)))))
     (λ c.
     let tested = c .before in
     let a = tested .before .before .before .args in
-    ap device (sym (pick-second (act (state (a .t1)) (release (a .place))) (state (a .t1)) (rw (tested .is-released .ensures) at (c .if1 .left))))))
+    ap device (sym (pick-false _ (act (state (a .t1)) (release (a .place))) (state (a .t1)) (rw (tested .is-released .ensures) at (c .if1 .left))))))
