@@ -196,16 +196,22 @@ fn is_actor(actor: Actor, n: usize) -> bool
 fn is_different(before: Device, after: Device, n: usize) -> bool
     ensures { λ r. ⌜ r ≡ differs (state before) (state after) n ⌝ }
 {
-    let old = device::selected_set(before, n);
-    let new = device::selected_set(after, n);
-    (device::selected(before, n) != device::selected(after, n)) | (old.number != new.number)
+    let old = device::selected(before, n);
+    let new = device::selected(after, n);
+    let used = before.sets[old];
+    let uses = after.sets[new];
+    (old != new) | (used.number != uses.number)
 }
 
 fn is_told(before: Device, after: Device, actor: Actor, n: usize) -> bool
     ensures { λ r. ⌜ r ≡ told (state before) (state after) actor n ⌝ }
 {
     let nexus = device::nexus_at(before, n);
-    nexus.marks.registered & !is_actor(actor, n) & is_different(before, after, n)
+    let asked = nexus.marks.registered & !is_actor(actor, n);
+    if !asked {
+        return false;
+    }
+    is_different(before, after, n)
 }
 
 // A flag where told: "another nexus" where one acts, else "vendor event".

@@ -201,12 +201,11 @@ pub fn first_not_zero(part: &[u8]) -> usize
 pub fn all_zero(part: &[u8]) -> bool
     ensures { λ r. ⌜ r ≡ allZero (now (part .entry)) ⌝ }
 {
+    let mut good = true;
     for i in 0..part.len() {
-        if part[i] != 0 {
-            return false;
-        }
+        good = good & (part[i] == 0);
     }
-    true
+    good
 }
 
 // Each byte from an index on is zero.

@@ -8,6 +8,8 @@ is-different-spec =
     (tie.spec
     (λ c κs. search needs)
     (λ c κs. search needs)
-    (λ c κs. search needs)
-    (λ c κs. search needs)
-    (λ c. simp (c .before .before .selected2 .ensures .0, c .before .before .before .selected .ensures .0, c .before .before .before .before .selected-set2 .ensures, c .before .before .before .before .before .selected-set .ensures)))
+    (λ c. search needs)
+    (λ c. search needs)
+    (λ c. search needs)
+    (λ c. search needs)
+    (λ c. simp (c .before .before .before .before .selected2 .ensures .0, c .before .before .before .before .before .selected .ensures .0)))

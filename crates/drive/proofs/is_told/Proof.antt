@@ -1,4 +1,6 @@
 use borrow.Author.Needs.{needs}
+use borrow.Author.Tests.{not-true, not-false}
+use mathlib.Core.Bool.{not, _&&_}
 use Rattle.drive.proofs.is_told.Statement.{statement}
 use Rattle.drive.proofs.is_told.Tie as tie
 
@@ -8,5 +10,12 @@ is-told-spec =
     (tie.spec
     (λ c κs. search needs)
     (λ c κs. search needs)
+    (λ c.
+    let actor = c .before .before .is-actor in
+    let nexus = c .before .before .before .nexus-at in
+    simp (← actor .ensures, ← nexus .ensures, not-true (nexus .result .marks .registered && not (actor .result)) (c .if1 .taken)))
     (λ c κs. search needs)
-    (λ c. simp (c .is-different .ensures, c .before .before .is-actor .ensures, c .before .before .before .nexus-at .ensures)))
+    (λ c.
+    let actor = c .before .before .before .is-actor in
+    let nexus = c .before .before .before .before .nexus-at in
+    simp (← actor .ensures, ← nexus .ensures, not-false (nexus .result .marks .registered && not (actor .result)) (c .before .if1 .left)) (c .is-different .ensures)))
