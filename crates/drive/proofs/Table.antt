@@ -16,8 +16,8 @@ use Rattle.device.specs.Selecting.{ownedPlace, selected}
 use Rattle.device.specs.WellFormed.{setGood, nexusGood, ownerIsLocal, wellFormed}
 use Rattle.status.specs.Status.{statusBytes}
 use Rattle.places.specs.Actions.{act, acts, releases, ownPlace, room, pageActions, settled, supplemented, taken}
-use Rattle.places.specs.declared.Event.the-variants.{Demount}
-use Rattle.drive.specs.Calls.{Call, securityIn, securityOut, write, happens}
+use Rattle.places.specs.declared.Event.the-variants.{Demount, Preempt, VendorRelease}
+use Rattle.drive.specs.Calls.{Call, securityIn, securityOut, write, unitReset, happens}
 use Rattle.drive.specs.Answers.{answer}
 use Rattle.drive.specs.After.{refused, registers, actions, flagged, accepted, happened, cleared, after}
 use Rattle.drive.specs.Runs.{runFrom, run}
@@ -122,6 +122,18 @@ refusedFirst = sends 5 (pageK 0x61) ∷ sends 6 (page 0x30 0x40 0x44 []) ∷ []
 abbrev bothFlags : List Call
 bothFlags = sends 5 (page 0x30 0x00 0x44 []) ∷ sends 6 (page 0x30 0x40 0x44 []) ∷ happens Demount ∷ []
 
+-- nexus 5 reads its status page; nexus 6 sends ALL
+abbrev readFirst : List Call
+readFirst = securityIn 5 0x20 0x20 ∷ sends 6 (page 0x30 0x40 0x44 []) ∷ []
+
+-- nexus 5 sends PUBLIC; the logical unit is reset; nexus 6 sends ALL
+abbrev resetBetween : List Call
+resetBetween = sends 5 (page 0x30 0x00 0x44 []) ∷ unitReset ∷ sends 6 (page 0x30 0x40 0x44 []) ∷ []
+
+-- nexus 3 sends K with CKORP
+abbrev preemptible : List Call
+preemptible = sends 3 (page 0x30 locked 0x46 []) ∷ []
+
 -- P1 to P10, in document 01's order
 unfoldable pub table : List Claim
 table =
@@ -149,7 +161,7 @@ table =
     ∷ answers [] (sends 3 (withUKad 0)) 8
     ∷ []
 
--- further rules: one row for each error that looks right and that P1 to P10 don't show
+-- further rules that P1 to P10 don't show: the errors that look right, who is registered, which flag an event gives
 unfoldable pub further : List Claim
 further =
     decides (sends 3 external ∷ []) 3 External 1
@@ -159,6 +171,11 @@ further =
     ∷ answers bothFlags (write 5 true) 3
     ∷ answers (bothFlags ++ write 5 true ∷ []) (write 5 true) 4
     ∷ answers (bothFlags ++ write 5 true ∷ write 5 true ∷ []) (write 5 true) 0
+    ∷ answers readFirst (write 5 true) 3
+    ∷ answers resetBetween (write 5 true) 0
+    ∷ answers (preemptible ++ happens (Preempt 6) ∷ []) (write 3 true) 3
+    ∷ answers (preemptible ++ happens (VendorRelease 1) ∷ []) (write 3 true) 4
+    ∷ answers preemptible (happens (VendorRelease 5)) 13
     ∷ []
 
 pub proved : T (every table)
