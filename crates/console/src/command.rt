@@ -39,18 +39,14 @@ pub struct Command {
     pub length: u16,
 }
 
-fn word(high: u8, low: u8) -> u16 {
-    high as u16 * 256 + low as u16
-}
-
 // Byte 5, the port, isn't read.
 pub fn command_of(bytes: [u8; COMMAND_SIZE]) -> Command {
     Command {
         kind: bytes[0],
         nexus: bytes[1],
-        argument: word(bytes[2], bytes[3]),
+        argument: wire::word(bytes[2], bytes[3]) as u16,
         protocol: bytes[4],
-        length: word(bytes[6], bytes[7]),
+        length: wire::word(bytes[6], bytes[7]) as u16,
     }
 }
 

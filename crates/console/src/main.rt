@@ -48,10 +48,7 @@ fn give_in(d: Device, c: Command, buffer: &mut [u8]) -> Reply {
         c.argument,
         &mut buffer[LENT_FROM..LENT_FROM + size],
     );
-    let full = [
-        reply::high_byte(outcome.length),
-        reply::low_byte(outcome.length),
-    ];
+    let full = wire::two((outcome.length % 65536) as u16);
     wire::put(buffer, HEAD_SIZE, &full);
     let answer = outcome.answer;
     let after = outcome.device;
@@ -80,7 +77,7 @@ fn give_write(d: Device, c: Command, buffer: &mut [u8]) -> Reply {
     }
     let data = [
         decision_number(decision),
-        reply::low_byte(outcome.place),
+        (outcome.place % 256) as u8,
         outcome.index,
     ];
     wire::put(buffer, HEAD_SIZE, &data);

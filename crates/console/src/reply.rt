@@ -45,27 +45,20 @@ pub fn unknown(d: Device) -> Reply {
     reply
 }
 
-pub fn low_byte(n: usize) -> u8 {
-    (n % 256) as u8
-}
-
-pub fn high_byte(n: usize) -> u8 {
-    (n / 256 % 256) as u8
-}
-
 // Writes a reply whose data are in the buffer, by one write where the output takes it whole; answers whether it is written.
 pub fn send(buffer: [u8; REPLY_MOST], reply: Reply) -> bool {
     let length = reply.length;
     if DATA_MOST < length {
         return false;
     }
+    let count = wire::two(length as u16);
     let head = [
         reply.number,
         reply.sense.key,
         reply.sense.asc,
         reply.sense.ascq,
-        high_byte(length),
-        low_byte(length),
+        count[0],
+        count[1],
     ];
     let mut out = buffer;
     wire::put(&mut out, 0, &head);
