@@ -2,16 +2,16 @@
 -- Assumes nothing.
 use Prim.Native.Nat.{ℕ, zero, suc, _≤_, _<_}
 use mathlib.Core.Path.{_≡_, refl, sym, ap, _∙_}
-use mathlib.Core.Bool.{Bool, true, false, not, _||_}
+use mathlib.Core.Bool.{Bool, true, false, not, _&&_, _||_}
 use mathlib.Core.List.{List}
 use native.Mathlib.Omega.{arith}
 use borrow.Author.Tests.{ltb-true, ltb-false, leb-true, eqb-true, not-true, lt-ltb, le-leb, eq-eqb, ne-eqb}
 use lib.Dec.{lit≤, eqb, ltb}
 use lib.ListN.{length, getD, length-replicate, getD-replicate, List·getD-eq-default}
 use Rattle.arrays.specs.Base.{pick}
-use Rattle.arrays.specs.Arrays.{each, count}
-use Rattle.arrays.proofs.Base.{cases, both, clash, pick-elim, pick-map, and-both, or-other, or-of, or-then, then-or, or-pick}
-use Rattle.arrays.proofs.Counting.{count-none, count-same, count-unique}
+use Rattle.arrays.specs.Arrays.{each, all, count}
+use Rattle.arrays.proofs.Base.{cases, both, clash, pick-elim, pick-map, and-left, and-right, and-both, or-other, or-of, or-then, then-or, or-pick, same-truth}
+use Rattle.arrays.proofs.Counting.{count-none, count-one, count-same, count-unique}
 use Rattle.arrays.proofs.Laws.{each-at, each-of}
 use Rattle.wire.specs.Buffers.{allZero}
 use Rattle.kad.specs.Kad.{lengthsGood, tailsGood, kadsZero}
@@ -19,7 +19,7 @@ use Rattle.page.specs.Check.{supplementalMost}
 use Rattle.page.specs.declared.Fields.{Fields}
 use Rattle.device.specs.Record.{State, powerOn, established, emptySet, setAt, nexusAt, noSet, newNexus, empty, used, localScope, allScope}
 use Rattle.device.specs.Selecting.{owns}
-use Rattle.device.specs.WellFormed.{fieldCodes, keysPast, scopeFits, fieldsZero, setZero, emptyIsZero, setGood, localOwnsOne, allOwnsFirst, nexusGood, ownerIsLocal, hasAll, wellFormed}
+use Rattle.device.specs.WellFormed.{fieldCodes, setCodes, keysPast, setTails, scopeFits, fieldsZero, setZero, emptyIsZero, setGood, localOwnsOne, allOwnsFirst, nexusGood, ownerIsLocal, usedGood, hasAll, wellFormed}
 use Rattle.device.specs.declared.Set.{Set}
 use Rattle.device.specs.declared.Nexus.{Nexus}
 
@@ -309,6 +309,100 @@ power-on-well nexuses places h =
           rw (getD-replicate places place (emptySet 0) noSet (rw l at i)) (owner-local (s .nexuses) place (emptySet 0) (λ x u. clash u refl));
       single = omega (arith, none);
     })
+
+-- ---- the tests of the code: an empty place is only asked whether it is zero, a used one never, and no ALL nexus is counted
+
+-- a set that is zero is good
+zero-good : (nexuses place : ℕ) (set : Set) → 0 < nexuses → setZero set ≡ true → setGood nexuses place set ≡ true
+zero-good nexuses place set h z =
+    let s = zero-set set z in
+    let f = s .fields in
+    let k = and-both _ _ (f .kads) in
+    let a = and-both _ _ (k .0) in
+    let u = and-both _ _ (a .0) in
+    let ul : set .fields .kads .ukad .length ≡ 0 = eqb-true _ _ (u .0) in
+    let al : set .fields .kads .akad .length ≡ 0 = eqb-true _ _ (a .1) in
+    set-good nexuses place set
+    (record {
+      owner = omega (arith, s .owner);
+      scope = omega (arith, s .scope);
+      fields = record {
+        encryption = omega (arith, f .encryption);
+        decryption = omega (arith, f .decryption);
+        index = omega (arith, f .index);
+        ceem = omega (arith, f .ceem);
+        lengths = simp (ul, al);
+      };
+      supplemental = omega (arith, s .supplemental);
+      indexed = λ x. clash x (simp (s .scope));
+      tails = simp (ul, al, u .1, k .1);
+      past = simp (s .supplemental, s .keys);
+      fits = λ x. clash x (simp (s .scope));
+      zero = λ x. z;
+    })
+
+-- what the tests of a place and those of the definition tell of each other
+module _ (nexuses : List Nexus) (count place : ℕ) (set : Set) where
+  -- what both ask of a used place
+  abbrev front : Bool
+  front = setCodes count set && setTails set && scopeFits place set
+
+  good-tested : setGood count place set ≡ true → ownerIsLocal nexuses place set ≡ true → (emptyIsZero set ≡ true) × (usedGood count nexuses place set ≡ true)
+  unfolding setGood usedGood
+  good-tested g o =
+      let h = and-both front (emptyIsZero set) g in
+      (h .1, or-of (empty set) _ (λ f. both front (ownerIsLocal nexuses place set) (h .0) o))
+
+  tested-good : 0 < count → emptyIsZero set ≡ true → usedGood count nexuses place set ≡ true → setGood count place set ≡ true
+  unfolding setGood usedGood
+  tested-good h e u =
+      cases (empty set)
+      (λ t. zero-good count place set h (or-then (empty set) _ e t))
+      (λ f. both front (emptyIsZero set) (and-left front (ownerIsLocal nexuses place set) (or-other (empty set) _ u f)) e)
+
+  tested-owner : usedGood count nexuses place set ≡ true → ownerIsLocal nexuses place set ≡ true
+  unfolding usedGood ownerIsLocal
+  tested-owner u =
+      cases (empty set)
+      (λ t. owner-local nexuses place set (λ l x. clash x (ap not t)))
+      (λ f. and-right front (ownerIsLocal nexuses place set) (or-other (empty set) _ u f))
+
+-- what three tests in a row answer: the first that fails, or the last
+pub stops-first : (a b c : Bool) → false ≡ a → false ≡ (a && b && c)
+stops-first a b c e = rw (sym e)
+
+pub stops-second : (a b c : Bool) → true ≡ a → false ≡ b → false ≡ (a && b && c)
+stops-second a b c e f = rw (sym e, sym f)
+
+pub ends-third : (a b c r : Bool) → true ≡ a → true ≡ b → r ≡ c → r ≡ (a && b && c)
+ends-third a b c r e f g = rw (sym e, sym f) g
+
+-- a record is well formed where all places pass as empty, all as used, and all nexuses pass: of two ALL nexuses both would own place 0
+pub tested : (s : State) (count : ℕ) → length (s .nexuses) ≡ count → 0 < count → wellFormed s ≡ (all emptyIsZero (s .sets) && each (usedGood count (s .nexuses)) (s .sets) && each (nexusGood (s .sets)) (s .nexuses))
+tested s count l h =
+    same-truth (wellFormed s) _
+    (λ t.
+    let w = well s t in
+    let at : (place : ℕ) → place < length (s .sets) → (emptyIsZero (setAt s place) ≡ true) × (usedGood count (s .nexuses) place (setAt s place) ≡ true) = λ place i. good-tested (s .nexuses) count place (setAt s place) (rw l at (w .sets place i)) (w .owners place i) in
+    both _ _
+    (both _ _
+    (each-of (λ k. emptyIsZero) noSet (s .sets) (λ place i. at place i .0))
+    (each-of (usedGood count (s .nexuses)) noSet (s .sets) (λ place i. at place i .1)))
+    (each-of (nexusGood (s .sets)) newNexus (s .nexuses) (w .nexuses)))
+    (λ t.
+    let h₂ = and-both _ _ t in
+    let h₁ = and-both _ _ (h₂ .0) in
+    let e = each-at (λ k. emptyIsZero) noSet (s .sets) (h₁ .0) in
+    let u = each-at (usedGood count (s .nexuses)) noSet (s .sets) (h₁ .1) in
+    let n = each-at (nexusGood (s .sets)) newNexus (s .nexuses) (h₂ .1) in
+    let owner : (i : ℕ) → i < length (s .nexuses) → hasAll (nexusAt s i) ≡ true → setAt s 0 .owner ≡ i = λ i m a. good-nexus (s .sets) i (nexusAt s i) (n i m) .all (eqb-true _ _ a) .1 in
+    well-formed s
+    (record {
+      sets = λ place i. rw l (tested-good (s .nexuses) count place (setAt s place) h (e place i) (u place i));
+      nexuses = n;
+      owners = λ place i. tested-owner (s .nexuses) count place (setAt s place) (u place i);
+      single = count-one (λ n. hasAll) newNexus (s .nexuses) (λ i j m k a b. sym (owner i m a) ∙ owner j k b);
+    }))
 
 -- ---- what is so of every place and nexus of a well-formed record
 

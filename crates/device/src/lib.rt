@@ -3,11 +3,11 @@ use page::Fields;
 ghost use mathlib.Core.Path.{_≡_};
 ghost use Prim.Native.Nat.{_<_, _*_};
 ghost use lib.ListN.{getD};
-ghost use Rattle.arrays.specs.Arrays.{each, count};
+ghost use Rattle.arrays.specs.Arrays.{count};
 ghost use Rattle.device.specs.Record.{nexusCount, placeCount, state, device, established, newNexus, powerOn, nexusAt};
 ghost use Rattle.device.specs.Updates.{atNexus};
 ghost use Rattle.device.specs.Selecting.{owns, ownedPlace, orElse, selected, selectedSet};
-ghost use Rattle.device.specs.WellFormed.{fieldCodes, setCodes, keysPast, setTails, scopeFits, fieldsZero, setZero, emptyIsZero, setGood, nexusGood, ownerIsLocal, hasAll, wellFormed};
+ghost use Rattle.device.specs.WellFormed.{fieldCodes, setCodes, keysPast, setTails, scopeFits, fieldsZero, setZero, emptyIsZero, usedGood, nexusGood, ownerIsLocal, wellFormed};
 
 pub const NEXUSES: usize = 16;
 
@@ -276,26 +276,10 @@ fn set_zero(set: Set) -> bool
 fn empty_is_zero(set: Set) -> bool
     ensures { λ r. ⌜ r ≡ emptyIsZero set ⌝ }
 {
-    (set.scope != 0) | set_zero(set)
-}
-
-// The set in a place by itself.
-fn set_good(set: Set, place: usize) -> bool
-    ensures { λ r. ⌜ r ≡ setGood nexusCount place set ⌝ }
-{
-    set_codes(set) & set_tails(set) & scope_fits(set, place) & empty_is_zero(set)
-}
-
-fn sets_good(sets: [Set; PLACES]) -> bool
-    ensures { λ r. ⌜ r ≡ each (setGood nexusCount) sets ⌝ }
-{
-    for place in 0..PLACES {
-        let set = sets[place];
-        if !set_good(set, place) {
-            return false;
-        }
+    if set.scope != 0 {
+        return true;
     }
-    true
+    set_zero(set)
 }
 
 // How many LOCAL sets a nexus owns.
@@ -314,22 +298,13 @@ fn owned_count(sets: [Set; PLACES], n: usize) -> usize
 fn nexus_good(nexus: Nexus, n: usize, sets: [Set; PLACES]) -> bool
     ensures { λ r. ⌜ r ≡ nexusGood sets n nexus ⌝ }
 {
+    if nexus.scope == 0 {
+        return true;
+    }
     let first = sets[0];
     (nexus.scope <= 2)
         & ((nexus.scope != LOCAL) | (owned_count(sets, n) == 1))
         & ((nexus.scope != ALL) | ((first.scope != 0) & (first.owner as usize == n)))
-}
-
-fn nexuses_good(nexuses: [Nexus; NEXUSES], sets: [Set; PLACES]) -> bool
-    ensures { λ r. ⌜ r ≡ each (nexusGood sets) nexuses ⌝ }
-{
-    for n in 0..NEXUSES {
-        let nexus = nexuses[n];
-        if !nexus_good(nexus, n, sets) {
-            return false;
-        }
-    }
-    true
 }
 
 // The set in a place against the nexuses: a used place of 1 to 4 is owned by a LOCAL nexus.
@@ -340,44 +315,40 @@ fn owner_is_local(set: Set, place: usize, nexuses: [Nexus; NEXUSES]) -> bool
     (place == 0) | (set.scope == 0) | (owner.scope == LOCAL)
 }
 
-fn owners_local(sets: [Set; PLACES], nexuses: [Nexus; NEXUSES]) -> bool
-    ensures { λ r. ⌜ r ≡ each (ownerIsLocal nexuses) sets ⌝ }
+// The set in a place, where the place is used.
+fn used_good(set: Set, place: usize, nexuses: [Nexus; NEXUSES]) -> bool
+    ensures { λ r. ⌜ r ≡ usedGood nexusCount nexuses place set ⌝ }
 {
-    for place in 0..PLACES {
-        let set = sets[place];
-        if !owner_is_local(set, place, nexuses) {
-            return false;
-        }
+    if set.scope == 0 {
+        return true;
     }
-    true
+    set_codes(set) & set_tails(set) & scope_fits(set, place) & owner_is_local(set, place, nexuses)
 }
 
-fn has_all(nexus: Nexus) -> bool
-    ensures { λ r. ⌜ r ≡ hasAll nexus ⌝ }
-{
-    nexus.scope == ALL
-}
-
-// How many nexuses have scope ALL.
-fn all_count(nexuses: [Nexus; NEXUSES]) -> usize
-    ensures { λ r. ⌜ r ≡ count (λ n. hasAll) nexuses ⌝ }
-{
-    let mut found: usize = 0;
-    for n in 0..NEXUSES {
-        let nexus = nexuses[n];
-        found += has_all(nexus) as usize;
-    }
-    found
-}
-
-// The device record is well formed.
+// The device record is well formed. The loops stand here, over arrays of this function's own: a function that is handed an array and
+// indexes it copies it first.
 pub fn well_formed(d: Device) -> bool
     ensures { λ r. ⌜ r ≡ wellFormed (state d) ⌝ }
 {
     let sets = d.sets;
     let nexuses = d.nexuses;
-    sets_good(sets)
-        & nexuses_good(nexuses, sets)
-        & owners_local(sets, nexuses)
-        & (all_count(nexuses) <= 1)
+    for place in 0..PLACES {
+        let set = sets[place];
+        if !empty_is_zero(set) {
+            return false;
+        }
+    }
+    for place in 0..PLACES {
+        let set = sets[place];
+        if !used_good(set, place, nexuses) {
+            return false;
+        }
+    }
+    for n in 0..NEXUSES {
+        let nexus = nexuses[n];
+        if !nexus_good(nexus, n, sets) {
+            return false;
+        }
+    }
+    true
 }

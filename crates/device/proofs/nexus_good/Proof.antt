@@ -8,6 +8,7 @@ unfolding nexusGood
 nexus-good-spec =
     tie.close
     (tie.spec
+    (λ c. simp (c .if1 .taken))
     (λ c. search needs)
     (λ c κs. search needs)
     (λ c. search needs)
