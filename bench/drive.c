@@ -58,10 +58,10 @@ enum event { DEMOUNT, NEXUS_LOSS, DEVICE_LOSS, PREEMPT, MICROCODE, VENDOR_RELEAS
 
 // ---- check 1
 
-static bool all_zero(const u8 *bytes, usize size) {
-    for (usize i = 0; i < size; i++)
-        if (bytes[i]) return false;
-    return true;
+static bool all_zero(const u8 *bytes, usize size) { // no early return, so that the compiler takes 16 bytes at a time
+    u8 any = 0;
+    for (usize i = 0; i < size; i++) any |= bytes[i];
+    return !any;
 }
 
 static bool set_zero(const struct set *s) {

@@ -1,7 +1,7 @@
-// Makes one kind of call many times over, for counting its instructions (bench/run). Input: the kind, and the turns divided by ten.
+// Makes one kind of call many times over, for counting its instructions (bench/run). Input: the kind, the turns divided by ten, and
+// the nexus that calls.
 use device::Device;
 use places::Event;
-ghost use Prim.Native.Nat.{_<_};
 
 fn page_k() -> [u8; 52] {
     let mut p = [0u8; 52];
@@ -17,58 +17,90 @@ fn page_k() -> [u8; 52] {
     p
 }
 
-fn turn(d: Device, kind: u8) -> Device {
-    let mut buffer = [0u8; 64];
-    let page = page_k();
-    if kind == 0 {
-        let w = drive::write(d, 3, true);
+fn writes(start: Device, n: u8, turns: u32) -> Device {
+    let mut d = start;
+    let mut i: u32 = 0;
+    while i < turns {
+        let w = drive::write(d, n, true);
         let next = w.device;
-        return next;
-    }
-    if kind == 1 {
-        let w = drive::security_in(d, 3, 0x20, 0x20, &mut buffer);
-        let next = w.device;
-        return next;
-    }
-    if kind == 2 {
-        let w = drive::security_out(d, 3, 0x20, 0x10, &page);
-        let next = w.device;
-        return next;
-    }
-    if kind == 3 {
-        let w = drive::happen(d, Event::Demount);
-        let next = w.device;
-        return next;
-    }
-    if kind == 4 {
-        let w = drive::happen(d, Event::Microcode);
-        let next = w.device;
-        return next;
+        d = next;
+        i += 1;
     }
     d
 }
 
-fn turns_of(b: u8) -> u32
-    ensures { λ r. ⌜ r < 2560 ⌝ }
-{
+fn ins(start: Device, n: u8, turns: u32) -> Device {
+    let mut d = start;
+    let mut i: u32 = 0;
+    while i < turns {
+        let mut buffer = [0u8; 64];
+        let w = drive::security_in(d, n, 0x20, 0x20, &mut buffer);
+        let next = w.device;
+        d = next;
+        i += 1;
+    }
+    d
+}
+
+fn outs(start: Device, n: u8, turns: u32) -> Device {
+    let mut d = start;
+    let page = page_k();
+    let mut i: u32 = 0;
+    while i < turns {
+        let w = drive::security_out(d, n, 0x20, 0x10, &page);
+        let next = w.device;
+        d = next;
+        i += 1;
+    }
+    d
+}
+
+fn events(start: Device, turns: u32, event: Event) -> Device {
+    let mut d = start;
+    let mut i: u32 = 0;
+    while i < turns {
+        let w = drive::happen(d, event);
+        let next = w.device;
+        d = next;
+        i += 1;
+    }
+    d
+}
+
+fn run(d: Device, kind: u8, n: u8, turns: u32) -> Device {
+    if kind == 0 {
+        return writes(d, n, turns);
+    }
+    if kind == 1 {
+        return ins(d, n, turns);
+    }
+    if kind == 2 {
+        return outs(d, n, turns);
+    }
+    if kind == 3 {
+        return events(d, turns, Event::Demount);
+    }
+    if kind == 4 {
+        return events(d, turns, Event::Microcode);
+    }
+    d
+}
+
+fn turns_of(b: u8) -> u32 {
     b as u32 * 10
 }
 
 fn main() {
-    let mut input = [0u8; 2];
+    let mut input = [0u8; 3];
     libc::read(0, &mut input);
     let page = page_k();
     let first = drive::power_on();
     let on = first.device;
     let sent = drive::security_out(on, 3, 0x20, 0x10, &page);
-    let mut d = sent.device;
+    let start = sent.device;
     let kind = input[0];
     let turns = turns_of(input[1]);
-    let mut i: u32 = 0;
-    while i < turns {
-        d = turn(d, kind);
-        i += 1;
-    }
+    let d = run(start, kind, input[2], turns);
     let out = [(d.counter % 256) as u8];
     io::write_all(1, &out);
 }
