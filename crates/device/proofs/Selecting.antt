@@ -12,9 +12,10 @@ use Rattle.arrays.proofs.Base.{both, pick-elim, and-both}
 use Rattle.arrays.proofs.Counting.{count-unique, find-counted, find-none}
 use Rattle.arrays.proofs.Laws.{find-by}
 use Rattle.device.specs.Record.{State, setAt, nexusAt, noSet, used, localScope}
-use Rattle.device.specs.Selecting.{owns, ownedPlace, orElse, selected}
+use Rattle.device.specs.Selecting.{owns, ownedPlace, orElse, placeOf, selected}
 use Rattle.device.specs.WellFormed.{wellFormed}
 use Rattle.device.specs.declared.Set.{Set}
+use Rattle.device.specs.declared.Nexus.{Nexus}
 use Rattle.device.specs.declared.Found.{Found}
 use Rattle.device.specs.declared.Found.the-variants.{At, Nowhere}
 use Rattle.device.proofs.WellFormed.{place-local, local-place, used-within, scope-at, nexus-at, owner-at}
@@ -22,12 +23,16 @@ use Rattle.device.proofs.WellFormed.{place-local, local-place, used-wit
 -- ---- in any record
 
 -- it is one of the places
-pub selected-within : (s : State) (n : ℕ) → 0 < length (s .sets) → selected s n < length (s .sets)
-unfolding selected ownedPlace
-selected-within s n h =
-    pick-elim (λ k. k < length (s .sets)) (eqb (nexusAt s n .scope) localScope)
-    (λ e. find-by At Nowhere (λ place. owns n) noSet (λ f. orElse f 0 < length (s .sets)) (s .sets) (λ k l t. l) h)
+pub place-within : (nexus : Nexus) (n : ℕ) (sets : List Set) → 0 < length sets → placeOf nexus n sets < length sets
+unfolding ownedPlace
+place-within nexus n sets h =
+    pick-elim (λ k. k < length sets) (eqb (nexus .scope) localScope)
+    (λ e. find-by At Nowhere (λ place. owns n) noSet (λ f. orElse f 0 < length sets) sets (λ k l t. l) h)
     (λ e. h)
+
+pub selected-within : (s : State) (n : ℕ) → 0 < length (s .sets) → selected s n < length (s .sets)
+unfolding selected
+selected-within s n h = place-within (nexusAt s n) n (s .sets) h
 
 -- a nexus that is not LOCAL uses place 0
 pub selected-shared : (s : State) (n : ℕ) → eqb (nexusAt s n .scope) localScope ≡ false → selected s n ≡ 0

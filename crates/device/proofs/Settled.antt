@@ -8,6 +8,8 @@ use Rattle.device.proofs.owned_place.Reads as owned-place
 use Rattle.device.proofs.owned_place.Kinds as owned-place-kinds
 use Rattle.device.proofs.nexus_at.Reads as nexus-at
 use Rattle.device.proofs.nexus_at.Kinds as nexus-at-kinds
+use Rattle.device.proofs.place_of.Reads as place-of
+use Rattle.device.proofs.place_of.Kinds as place-of-kinds
 use Rattle.device.proofs.selected.Reads as selected
 use Rattle.device.proofs.selected.Kinds as selected-kinds
 use Rattle.device.proofs.selected_set.Reads as selected-set
@@ -28,6 +30,9 @@ owned-place-settles κs a x y s t p q = same p q
 
 pub nexus-at-settles : SettlesAnswer 0 nexus-at-kinds.ps nexus-at-kinds.r nexus-at.Post
 nexus-at-settles κs a x y s t p q = same p q
+
+pub place-of-settles : SettlesAnswer 0 place-of-kinds.ps place-of-kinds.r place-of.Post
+place-of-settles κs a x y s t p q = same (p .0) (q .0)
 
 pub selected-settles : SettlesAnswer 0 selected-kinds.ps selected-kinds.r selected.Post
 selected-settles κs a x y s t p q = same (p .0) (q .0)

@@ -7,6 +7,7 @@ use Rattle.arrays.specs.Base.{pick}
 use Rattle.arrays.specs.Arrays.{find}
 use Rattle.device.specs.Record.{State, setAt, nexusAt, localScope}
 use Rattle.device.specs.declared.Set.{Set}
+use Rattle.device.specs.declared.Nexus.{Nexus}
 use Rattle.device.specs.declared.Found.{Found}
 use Rattle.device.specs.declared.Found.the-variants.{At, Nowhere}
 
@@ -22,9 +23,12 @@ abbrev pub orElse : Found → ℕ → ℕ
 orElse (At place) other = place
 orElse Nowhere other = other
 
--- the place whose set the nexus uses
+-- the place whose set nexus n uses, given the nexus and the sets
+abbrev pub placeOf : Nexus → ℕ → List Set → ℕ
+placeOf nexus n sets = pick (eqb (nexus .scope) localScope) (orElse (ownedPlace sets n) 0) 0
+
 unfoldable pub selected : State → ℕ → ℕ
-selected s n = pick (eqb (nexusAt s n .scope) localScope) (orElse (ownedPlace (s .sets) n) 0) 0
+selected s n = placeOf (nexusAt s n) n (s .sets)
 
 abbrev pub selectedSet : State → ℕ → Set
 selectedSet s n = setAt s (selected s n)

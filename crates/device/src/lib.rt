@@ -6,7 +6,7 @@ ghost use lib.ListN.{getD};
 ghost use Rattle.arrays.specs.Arrays.{count};
 ghost use Rattle.device.specs.Record.{nexusCount, placeCount, state, device, established, newNexus, powerOn, nexusAt};
 ghost use Rattle.device.specs.Updates.{atNexus};
-ghost use Rattle.device.specs.Selecting.{owns, ownedPlace, orElse, selected, selectedSet};
+ghost use Rattle.device.specs.Selecting.{owns, ownedPlace, orElse, placeOf, selected, selectedSet};
 ghost use Rattle.device.specs.WellFormed.{fieldCodes, setCodes, keysPast, setTails, scopeFits, fieldsZero, setZero, emptyIsZero, usedGood, nexusGood, ownerIsLocal, wellFormed};
 
 pub const NEXUSES: usize = 16;
@@ -174,15 +174,21 @@ pub fn with_nexus(d: Device, n: usize, nexus: Nexus) -> Device
 }
 
 // The place whose set a nexus uses: a LOCAL nexus its own, PUBLIC and ALL nexuses place 0.
-pub fn selected(d: Device, n: usize) -> usize
-    ensures { λ r. ⌜ (r ≡ selected (state d) n) × (r < placeCount) ⌝ }
+pub fn place_of(nexus: Nexus, n: usize, sets: [Set; PLACES]) -> usize
+    ensures { λ r. ⌜ (r ≡ placeOf nexus n sets) × (r < placeCount) ⌝ }
 {
-    let nexus = nexus_at(d, n);
     if nexus.scope != LOCAL {
         return 0;
     }
-    let sets = d.sets;
     or_else(owned_place(sets, n), 0)
+}
+
+// The same of a nexus of the record.
+pub fn selected(d: Device, n: usize) -> usize
+    ensures { λ r. ⌜ (r ≡ selected (state d) n) × (r < placeCount) ⌝ }
+{
+    let sets = d.sets;
+    place_of(nexus_at(d, n), n, sets)
 }
 
 // The set that a nexus uses.

@@ -1,3 +1,4 @@
+pub mod Alerts
 pub mod Checks
 pub mod Same
 pub mod Outcomes

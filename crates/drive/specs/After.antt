@@ -3,16 +3,17 @@ use Prim.Native.Nat.{ℕ}
 use mathlib.Core.Bool.{Bool, true, false, not, _&&_, _||_}
 use mathlib.Core.List.{List, [], _∷_, map}
 use lib.Dec.{eqb}
-use lib.ListN.{length}
+use lib.ListN.{length, getD, replicate}
 use Rattle.arrays.specs.Base.{pick}
 use Rattle.arrays.specs.Arrays.{mapFrom}
 use Rattle.answer.specs.Answers.{isDone}
 use Rattle.answer.specs.declared.Answer.{Answer}
 use Rattle.answer.specs.declared.Answer.the-variants.{Done, NotWellFormed, NexusAbove, ChangedByAnotherNexus, ChangedByVendorEvent, ProtocolNotSupported, PageNotSupported, PageLengthWrong, FieldWrong, FifthSupplementalKey, NoPlaceForLocal, KeyInstanceChanged, ParametersNotUsable, PlaceAbove}
 use Rattle.page.specs.declared.Page.{Page}
-use Rattle.device.specs.Record.{State, nexusAt, powerOn}
-use Rattle.device.specs.Selecting.{selected, selectedSet}
+use Rattle.device.specs.Record.{State, nexusAt, powerOn, noSet, placeCount}
+use Rattle.device.specs.Selecting.{placeOf, selected, selectedSet}
 use Rattle.device.specs.declared.Marks.{Marks}
+use Rattle.device.specs.declared.Set.{Set}
 use Rattle.device.specs.declared.Nexus.{Nexus}
 use Rattle.marks.specs.Reset.{unmarked}
 use Rattle.drive.specs.Calls.{Call, powerUp, securityIn, securityOut, write, unitReset, happens}
@@ -70,6 +71,19 @@ differs s t n = not (eqb (selected s n) (selected t n)) || not (eqb (selectedSet
 abbrev pub isActor : Actor → ℕ → Bool
 isActor Nobody n = false
 isActor (Acting m) n = eqb m n
+
+-- the same from what a nexus was and is, and from the sets as they were and are
+abbrev pub numbersOf : List Set → List ℕ
+numbersOf sets = mapFrom {A = ℕ} (λ place zero. getD sets place noSet .number) 0 (replicate placeCount 0)
+
+abbrev pub differsIn : Nexus → Nexus → ℕ → List Set → List Set → Bool
+differsIn was nexus n old new =
+    let p = placeOf was n old in
+    let q = placeOf nexus n new in
+    not (eqb p q) || not (eqb (getD old p noSet .number) (getD new q noSet .number))
+
+abbrev pub toldIn : Nexus → Nexus → ℕ → Actor → List Set → List Set → Bool
+toldIn was nexus n actor old new = was .marks .registered && not (isActor actor n) && differsIn was nexus n old new
 
 abbrev pub told : State → State → Actor → ℕ → Bool
 told s t actor n = nexusAt s n .marks .registered && not (isActor actor n) && differs s t n

@@ -20,7 +20,7 @@ ghost use Rattle.device.specs.Record.{state, device, nexusCount, placeCount};
 ghost use Rattle.device.specs.Updates.{registered, withAnother, withVendor, withMarks, atNexus};
 ghost use Rattle.drive.specs.Calls.{securityOut, unitReset, happens};
 ghost use Rattle.drive.specs.Answers.{due, firstOf, heard, check5, check6, isInPage, pageChecked, isNoRoom, check10, check11, check12, eventCheck};
-ghost use Rattle.drive.specs.After.{marksAfter, remarked, refused, registers, isActor, differs, told, alerted, flagged, accepted, actorOf};
+ghost use Rattle.drive.specs.After.{marksAfter, remarked, refused, registers, isActor, numbersOf, differsIn, toldIn, told, alerted, accepted, actorOf};
 ghost use Rattle.drive.specs.Outcomes.{poweredOn, outcome, responsePage, inOutcome, inBuffer, decided, refusedWrite, writeOutcome};
 
 const LOCAL: u8 = 1;
@@ -192,26 +192,44 @@ fn is_actor(actor: Actor, n: usize) -> bool
     }
 }
 
-// The set that a nexus uses, or its number, isn't the one it used before.
-fn is_different(before: Device, after: Device, n: usize) -> bool
-    ensures { λ r. ⌜ r ≡ differs (state before) (state after) n ⌝ }
+// The numbers of the sets: few bytes, which may be indexed without a copy of the sets.
+fn numbers(sets: [Set; PLACES]) -> [u32; PLACES]
+    ensures { λ r. ⌜ r ≡ numbersOf sets ⌝ }
 {
-    let old = device::selected(before, n);
-    let new = device::selected(after, n);
-    let used = before.sets[old];
-    let uses = after.sets[new];
-    (old != new) | (used.number != uses.number)
+    let mut out = [0u32; PLACES];
+    for place in 0..PLACES {
+        let set = sets[place];
+        out[place] = set.number;
+    }
+    out
 }
 
-fn is_told(before: Device, after: Device, actor: Actor, n: usize) -> bool
-    ensures { λ r. ⌜ r ≡ told (state before) (state after) actor n ⌝ }
+// The set that a nexus uses, or its number, isn't the one it used before.
+fn is_different(was: Nexus, nexus: Nexus, n: usize, old: [Set; PLACES], new: [Set; PLACES]) -> bool
+    ensures { λ r. ⌜ r ≡ differsIn was nexus n old new ⌝ }
 {
-    let nexus = device::nexus_at(before, n);
-    let asked = nexus.marks.registered & !is_actor(actor, n);
+    let used = device::place_of(was, n, old);
+    let uses = device::place_of(nexus, n, new);
+    let before = numbers(old);
+    let after = numbers(new);
+    (used != uses) | (before[used] != after[uses])
+}
+
+fn is_told(
+    was: Nexus,
+    nexus: Nexus,
+    n: usize,
+    actor: Actor,
+    old: [Set; PLACES],
+    new: [Set; PLACES],
+) -> bool
+    ensures { λ r. ⌜ r ≡ toldIn was nexus n actor old new ⌝ }
+{
+    let asked = was.marks.registered & !is_actor(actor, n);
     if !asked {
         return false;
     }
-    is_different(before, after, n)
+    is_different(was, nexus, n, old, new)
 }
 
 // A flag where told: "another nexus" where one acts, else "vendor event".
@@ -237,21 +255,17 @@ fn alert(nexus: Nexus, actor: Actor, flag: bool) -> Nexus
 fn alert_all(before: Device, after: Device, actor: Actor) -> [Nexus; NEXUSES]
     ensures { λ r. ⌜ r ≡ mapFrom (λ n. remarked (alerted actor (told (state before) (state after) actor n))) 0 (after .nexuses) ⌝ }
 {
+    let old_sets = before.sets;
+    let new_sets = after.sets;
+    let old = before.nexuses;
     let mut out = after.nexuses;
     for n in 0..NEXUSES {
+        let was = old[n];
         let nexus = out[n];
-        out[n] = alert(nexus, actor, is_told(before, after, actor, n));
+        if is_told(was, nexus, n, actor, old_sets, new_sets) {
+            out[n] = alert(nexus, actor, true);
+        }
     }
-    out
-}
-
-// The record after a page or an event, with the flags that it gives.
-fn flag(before: Device, after: Device, actor: Actor) -> Device
-    ensures { λ r. ⌜ r ≡ device (flagged actor (state before) (state after)) ⌝ }
-{
-    let nexuses = alert_all(before, after, actor);
-    let mut out = after;
-    out.nexuses = nexuses;
     out
 }
 
@@ -338,7 +352,10 @@ fn accept(d: Device, n: u8, page: Page) -> Device
     ensures { λ r. ⌜ r ≡ device (accepted (state d) n page) ⌝ }
 {
     let taken = register(places::take_page(d, n, page), n);
-    flag(d, taken, Actor::Acting(n))
+    let nexuses = alert_all(d, taken, Actor::Acting(n));
+    let mut out = taken;
+    out.nexuses = nexuses;
+    out
 }
 
 // SECURITY PROTOCOL OUT.
@@ -511,8 +528,11 @@ pub fn happen(d: Device, event: Event) -> Outcome
         return Outcome { answer, device: d };
     }
     let released = places::release_by(d, event);
+    let nexuses = alert_all(d, released, actor_of(event));
+    let mut out = released;
+    out.nexuses = nexuses;
     Outcome {
         answer,
-        device: flag(d, released, actor_of(event)),
+        device: out,
     }
 }

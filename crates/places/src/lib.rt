@@ -63,10 +63,11 @@ fn free(nexus: Nexus, held: bool) -> Nexus
 fn free_all(d: Device, place: usize) -> [Nexus; NEXUSES]
     ensures { λ r. ⌜ r ≡ mapFrom (freed (state d) place) 0 (d .nexuses) ⌝ }
 {
+    let sets = d.sets;
     let mut out = d.nexuses;
     for n in 0..NEXUSES {
         let nexus = out[n];
-        out[n] = free(nexus, device::selected(d, n) == place);
+        out[n] = free(nexus, device::place_of(nexus, n, sets) == place);
     }
     out
 }

@@ -39,6 +39,7 @@ pub use Rattle.device.proofs.Settled.{established-settles as device-established
 pub use Rattle.device.proofs.Settled.{power-on-settles as device-power-on-settles}
 pub use Rattle.device.proofs.Settled.{owned-place-settles as device-owned-place-settles}
 pub use Rattle.device.proofs.Settled.{nexus-at-settles as device-nexus-at-settles}
+pub use Rattle.device.proofs.Settled.{place-of-settles as device-place-of-settles}
 pub use Rattle.device.proofs.Settled.{selected-settles as device-selected-settles}
 pub use Rattle.device.proofs.Settled.{selected-set-settles as device-selected-set-settles}
 pub use Rattle.device.proofs.Settled.{well-formed-settles as device-well-formed-settles}

@@ -1,5 +1,10 @@
 use borrow.Author.Needs.{needs}
-use Rattle.drive.specs.After.{accepted}
+use mathlib.Core.Path.{ap, _∙_}
+use Rattle.device.specs.Record.{state, device}
+use Rattle.device.specs.declared.Device.{Device}
+use Rattle.drive.specs.After.{registers, flagged, accepted}
+use Rattle.drive.specs.declared.Actor.the-variants.{Acting}
+use Rattle.drive.proofs.Alerts.{flag-all}
 use Rattle.drive.proofs.accept.Statement.{statement}
 use Rattle.drive.proofs.accept.Tie as tie
 
@@ -11,4 +16,8 @@ accept-spec =
     (λ c κs. search needs)
     (λ c κs. search needs)
     (λ c κs. search needs)
-    (λ c. simp (c .flag .ensures, c .before .register .ensures, c .before .before .take-page .ensures)))
+    (λ c.
+    let a = c .before .before .before .args in
+    flag-all (Acting (a .n)) (a .d) _ _ (c .alert-all .ensures)
+    ∙ ap (λ (t : Device). device (flagged (Acting (a .n)) (state (a .d)) (state t)))
+    (c .before .register .ensures ∙ ap (λ (t : Device). device (registers (state t) (a .n))) (c .before .before .take-page .ensures))))

@@ -1,33 +1,43 @@
 use borrow.Author.Needs.{needs}
 use Prim.Native.Nat.{_-_}
+use mathlib.Core.Logic.{⊎-elim}
 use Rattle.arrays.proofs.Laws.{sized-field}
-use Rattle.arrays.proofs.Loops.{Rewritten, rewrite-starts, rewrite-more, rewrite-ends}
-use Rattle.device.specs.Record.{state, nexusCount, newNexus}
-use Rattle.drive.specs.After.{remarked, alerted, told}
+use Rattle.arrays.proofs.Loops.{Rewritten, rewrite-starts, rewrite-ends}
+use Rattle.device.specs.Record.{nexusCount}
+use Rattle.device.specs.Selecting.{selected}
+use Rattle.drive.proofs.Alerts.{tells, tell-one, tell-none}
 use Rattle.drive.proofs.alert_all.Statement.{statement}
 use Rattle.drive.proofs.alert_all.Tie as tie
 
 abbrev Inv-loop : tie.InvT-loop
-Inv-loop before after actor out₀ n₀ out n =
-    Rewritten (λ k. remarked (alerted actor (told (state before) (state after) actor k))) nexusCount out₀ n out
+Inv-loop actor old-sets new-sets old out₀ n₀ out n =
+    Rewritten (tells actor old-sets new-sets old out₀) nexusCount out₀ n out
 
 abbrev μ-loop : tie.MeasureT-loop
-μ-loop before after actor out₀ n₀ out n = nexusCount - n
+μ-loop actor old-sets new-sets old out₀ n₀ out n = nexusCount - n
 
 pub alert-all-spec : {M : Type 1} → statement M
+unfolding selected
 alert-all-spec =
     tie.close
-    (tie.spec
-    Inv-loop
-    μ-loop
+    (tie.spec Inv-loop μ-loop
     (λ c. rewrite-starts (search (needs, sized-field)))
     (λ c. search needs)
     (λ c. search needs)
+    (λ c. search needs)
+    (λ c. search needs)
     (λ c κs. search needs)
     (λ c κs. search needs)
     (λ c. search needs)
     (λ c. search needs)
     (λ c. search needs)
     (λ c. search needs)
-    (λ c. rewrite-more (c .before .before .before .before .loop .inv) (search needs) newNexus (rw (c .before .is-told .ensures) at (c .alert .ensures)))
+    (λ c.
+    let inv = c .before .before .before .before .before .loop .inv in
+    let told = c .before .is-told .ensures in
+    let a = c .before .before .before .before .before .before .before .before .before .before .args in
+    ⊎-elim
+    (λ w. tell-one (a .actor) (a .before .sets) (a .after .sets) (a .before .nexuses) (a .after .nexuses) inv (search needs) told (w .0 .taken) (w .1 .ensures) (w .2))
+    (λ w. tell-none (a .actor) (a .before .sets) (a .after .sets) (a .before .nexuses) (a .after .nexuses) inv (search needs) told (w .0 .left) (w .1))
+    (c .if1 .came))
     (λ c. rewrite-ends (c .before .loop .inv) (search needs)))

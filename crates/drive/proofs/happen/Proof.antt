@@ -10,7 +10,7 @@ use Rattle.answer.specs.declared.Answer.the-variants.{NotWellFormed}
 use Rattle.device.specs.Record.{state, nexusCount, placeCount}
 use Rattle.drive.specs.Calls.{happens}
 use Rattle.drive.specs.Answers.{firstOf, check1, eventCheck, answer}
-use Rattle.drive.specs.After.{happened}
+use Rattle.drive.specs.After.{flagged, happened}
 use Rattle.drive.proofs.Checks.{last-is, fault-told, done-told}
 use Rattle.drive.proofs.Outcomes.{event-refused, event-done}
 use Rattle.drive.proofs.happen.Statement.{statement}
@@ -31,7 +31,7 @@ unfolding answer
 refusal c = sym (simp (← c .before .well-formed .ensures, c .if1 .taken))
 
 pub happen-spec : {M : Type 1} → statement M
-unfolding happened
+unfolding flagged happened
 happen-spec =
     tie.close
     (tie.spec
@@ -50,5 +50,5 @@ happen-spec =
     (λ c.
     let checks = c .before .before .before .before .before in
     let a = checks .before .before .before .args in
-    simp (c .flag .ensures, c .before .actor-of .ensures, c .before .before .release-by .ensures)
+    simp (c .alert-all .ensures, c .before .actor-of .ensures, c .before .before .release-by .ensures)
     (event-done (state (a .d)) (a .event) _ (answered checks) (done-told (c .before .before .before .before .is-done .ensures) (c .before .before .before .if2 .left)))))

@@ -1,4 +1,5 @@
 use borrow.Author.Needs.{needs}
+use Rattle.drive.proofs.Alerts.{number-read, compared}
 use Rattle.drive.proofs.is_different.Statement.{statement}
 use Rattle.drive.proofs.is_different.Tie as tie
 
@@ -8,8 +9,16 @@ is-different-spec =
     (tie.spec
     (λ c κs. search needs)
     (λ c κs. search needs)
+    (λ c κs. search needs)
+    (λ c κs. search needs)
     (λ c. search needs)
     (λ c. search needs)
     (λ c. search needs)
     (λ c. search needs)
-    (λ c. simp (c .before .before .before .before .selected2 .ensures .0, c .before .before .before .before .before .selected .ensures .0)))
+    (λ c.
+    let used = c .before .before .before .place-of in
+    let uses = c .before .before .place-of2 in
+    let a = c .before .before .before .before .args in
+    compared _ _ _ _ _ _ _ _ (used .ensures .0) (uses .ensures .0)
+    (number-read (a .old) _ _ _ (c .before .numbers .ensures) (used .ensures .0) (used .ensures .1))
+    (number-read (a .new) _ _ _ (c .numbers2 .ensures) (uses .ensures .0) (uses .ensures .1))))

@@ -9,13 +9,12 @@ is-told-spec =
     tie.close
     (tie.spec
     (λ c κs. search needs)
-    (λ c κs. search needs)
     (λ c.
     let actor = c .before .before .is-actor in
-    let nexus = c .before .before .before .nexus-at in
-    simp (← actor .ensures, ← nexus .ensures, not-true (nexus .result .marks .registered && not (actor .result)) (c .if1 .taken)))
+    let was = c .before .before .before .args .was in
+    simp (← actor .ensures, not-true (was .marks .registered && not (actor .result)) (c .if1 .taken)))
     (λ c κs. search needs)
     (λ c.
     let actor = c .before .before .before .is-actor in
-    let nexus = c .before .before .before .before .nexus-at in
-    simp (← actor .ensures, ← nexus .ensures, not-false (nexus .result .marks .registered && not (actor .result)) (c .before .if1 .left)) (c .is-different .ensures)))
+    let was = c .before .before .before .before .args .was in
+    simp (← actor .ensures, not-false (was .marks .registered && not (actor .result)) (c .before .if1 .left)) (c .is-different .ensures)))
