@@ -12,14 +12,16 @@ use places::Event;
 use places::Room;
 ghost use mathlib.Core.Path.{_≡_};
 ghost use mathlib.Core.List.{_∷_, [], _++_};
-ghost use lib.Dec.{leb};
+ghost use mathlib.Core.Bool.{not, _&&_};
+ghost use lib.Dec.{leb, eqb};
 ghost use Rattle.arrays.specs.Arrays.{mapFrom};
 ghost use Rattle.wire.specs.Buffers.{Shown};
 ghost use Rattle.answer.specs.declared.Answer.{Answer};
+ghost use Rattle.page.specs.Fields.{encrypts};
 ghost use Rattle.device.specs.Record.{state, device, nexusCount, placeCount};
 ghost use Rattle.device.specs.Updates.{registered, withAnother, withVendor, withMarks, atNexus};
 ghost use Rattle.drive.specs.Calls.{securityOut, unitReset, happens};
-ghost use Rattle.drive.specs.Answers.{due, firstOf, heard, check5, check6, isInPage, pageChecked, isNoRoom, check10, check11, check12, eventCheck};
+ghost use Rattle.drive.specs.Answers.{due, firstOf, heard, check5, check6, isInPage, pageChecked, isNoRoom, check10, eventCheck};
 ghost use Rattle.drive.specs.After.{marksAfter, remarked, refused, registers, isActor, numbersOf, differsIn, toldIn, told, alerted, accepted, actorOf};
 ghost use Rattle.drive.specs.Outcomes.{poweredOn, outcome, responsePage, inOutcome, inBuffer, decided, refusedWrite, writeOutcome};
 
@@ -394,12 +396,10 @@ fn decide(mode: u8) -> Decision
     Decision::Encrypted
 }
 
-// Checks 11 and 12.
-fn check_write(d: Device, n: u8, supported: bool) -> Answer
-    ensures { λ r. ⌜ r ≡ firstOf (check11 (state d) n ∷ check12 (state d) n supported ∷ []) ⌝ }
+// Checks 11 and 12, of a nexus and the set that it uses.
+fn check_write(nexus: Nexus, set: Set, supported: bool) -> Answer
+    ensures { λ r. ⌜ r ≡ firstOf (due (nexus .lock && not (eqb (nexus .saved) (set .number))) Answer.KeyInstanceChanged ∷ due (encrypts (set .fields .encryption) && not supported) Answer.ParametersNotUsable ∷ []) ⌝ }
 {
-    let nexus = device::nexus_at(d, n as usize);
-    let set = device::selected_set(d, n as usize);
     if nexus.lock & (nexus.saved != set.number) {
         return Answer::KeyInstanceChanged;
     }
@@ -431,15 +431,18 @@ pub fn write(d: Device, n: u8, supported: bool) -> WriteOutcome
     if !answer::is_done(heard) {
         return refuse_write(d, n, heard);
     }
-    let answer = check_write(d, n, supported);
+    let nexus = device::nexus_at(d, n as usize);
+    let sets = d.sets;
+    let place = device::place_of(nexus, n as usize, sets);
+    let set = sets[place];
+    let answer = check_write(nexus, set, supported);
     if !answer::is_done(answer) {
         return refuse_write(d, n, answer);
     }
-    let set = device::selected_set(d, n as usize);
     WriteOutcome {
         answer,
         decision: decide(set.fields.encryption),
-        place: device::selected(d, n as usize),
+        place,
         index: set.fields.index,
         device: d,
     }

@@ -1,4 +1,3 @@
-use borrow.Author.Needs.{needs}
 use Rattle.drive.proofs.check_write.Statement.{statement}
 use Rattle.drive.proofs.check_write.Tie as tie
 
@@ -6,8 +5,6 @@ pub check-write-spec : {M : Type 1} → statement M
 check-write-spec =
     tie.close
     (tie.spec
-    (λ c κs. search needs)
-    (λ c κs. search needs)
-    (λ c. simp (← c .before .before .before .before .before .nexus-at .ensures, ← c .before .before .before .before .selected-set .ensures, c .if1 .taken))
-    (λ c. simp (← c .before .before .before .before .before .before .before .nexus-at .ensures, ← c .before .before .before .before .before .before .selected-set .ensures, c .before .before .if1 .left, c .if2 .taken))
-    (λ c. simp (← c .before .before .before .before .before .before .before .nexus-at .ensures, ← c .before .before .before .before .before .before .selected-set .ensures, c .before .before .if1 .left, c .if2 .left)))
+    (λ c. simp (c .if1 .taken))
+    (λ c. simp (c .before .before .if1 .left, c .if2 .taken))
+    (λ c. simp (c .before .before .if1 .left, c .if2 .left)))
