@@ -141,6 +141,11 @@ rest-of l k x xs e = rw add-one at (sym (drop-drop 1 k l)) ∙ ap (drop 1) e
 pub read-same : {A B : Type 0} (r : A → B) (l m : List A) (d : A) → map r l ≡ map r m → (i : ℕ) → r (getD l i d) ≡ r (getD m i d)
 read-same r l m d e i = sym (List·getD-map r l i d) ∙ ap (λ x. getD x i (r d)) e ∙ List·getD-map r m i d
 
+-- a rewriting that keeps each element
+pub mapFrom-kept : {A : Type 0} (f : ℕ → A → A) → ((i : ℕ) (x : A) → f i x ≡ x) → (k : ℕ) (l : List A) → mapFrom f k l ≡ l
+mapFrom-kept f e k [] = refl
+mapFrom-kept {A} f e k (x ∷ l) = ap₂ {C = List A} _∷_ (e k x) (mapFrom-kept f e (suc k) l)
+
 -- a rewriting that keeps what is read
 pub read-mapFrom : {A B : Type 0} (r : A → B) (f : ℕ → A → A) → ((i : ℕ) (x : A) → r (f i x) ≡ r x) → (k : ℕ) (l : List A) → map r (mapFrom f k l) ≡ map r l
 read-mapFrom r f e k [] = refl

@@ -43,25 +43,26 @@ pub enum Decision {
     Encrypted,
 }
 
+// The device stands first in each outcome: after a byte and its padding the compiler copies it twice more.
 pub struct Outcome {
-    pub answer: Answer,
     pub device: Device,
+    pub answer: Answer,
 }
 
 // length is the response page's full length, 0 where refused.
 pub struct InOutcome {
+    pub device: Device,
     pub answer: Answer,
     pub length: usize,
-    pub device: Device,
 }
 
 // place and index are those of the set in use, 0 where refused.
 pub struct WriteOutcome {
+    pub device: Device,
     pub answer: Answer,
     pub decision: Decision,
     pub place: usize,
     pub index: u8,
-    pub device: Device,
 }
 
 // Power-on takes no record, answers 0 and gives all zeros.
@@ -320,7 +321,9 @@ fn check_page(d: Device, n: u8, page: &[u8]) -> Checked
     ensures { λ r. ⌜ r ≡ pageChecked (state d) n (now (page .entry)) ⌝ }
 {
     let nexus = device::nexus_at(d, n as usize);
-    let set = device::selected_set(d, n as usize);
+    let sets = d.sets;
+    let place = device::place_of(nexus, n as usize, sets);
+    let set = sets[place];
     page::check(
         page,
         nexus.scope,
@@ -528,6 +531,10 @@ pub fn happen(d: Device, event: Event) -> Outcome
     }
     let answer = check_event(event);
     if !answer::is_done(answer) {
+        return Outcome { answer, device: d };
+    }
+    let sets = d.sets;
+    if places::none_due(sets, event) {
         return Outcome { answer, device: d };
     }
     let released = places::release_by(d, event);

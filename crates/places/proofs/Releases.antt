@@ -2,21 +2,22 @@
 -- Assumes nothing.
 use Prim.Native.Nat.{ℕ, suc, _+_}
 use mathlib.Core.Path.{_≡_, refl, sym, ap, _∙_}
-use mathlib.Core.Bool.{Bool}
+use mathlib.Core.Bool.{Bool, true, _&&_}
 use mathlib.Core.List.{List, [], _∷_, _++_}
 use native.Mathlib.Nat.{zero-add, add-zero, add-suc, suc-add}
 use native.Mathlib.Omega.{arith}
+use borrow.Author.Tests.{not-true}
 use lib.Dec.{eqb}
 use lib.ListN.{length, drop}
 use lib.Seq.{drop-set-lt}
 use Rattle.arrays.specs.Base.{pick}
-use Rattle.arrays.specs.Arrays.{foldFrom, runs}
-use Rattle.arrays.proofs.Base.{cases, pick-elim, pick-same}
+use Rattle.arrays.specs.Arrays.{foldFrom, each, runs}
+use Rattle.arrays.proofs.Base.{cases, and-both, pick-elim, pick-same, pick-false}
 use Rattle.arrays.proofs.Laws.{getD-mapFrom-kept, first-of, rest-of}
 use Rattle.device.specs.Record.{State, noSet, newNexus, setAt, nexusAt}
 use Rattle.device.specs.Selecting.{selected}
 use Rattle.device.specs.declared.Set.{Set}
-use Rattle.places.specs.Actions.{Action, freed, release, act, acts, due, releases, releaseStep}
+use Rattle.places.specs.Actions.{Action, freed, release, act, acts, due, spared, releases, releaseStep}
 
 -- one list of actions, then another
 pub acts-append : (s : State) (a b : List Action) → acts s (a ++ b) ≡ acts (acts s a) b
@@ -81,3 +82,15 @@ module _ (test : ℕ → Set → Bool) where
 pub releases-run : (picked : ℕ → Set → Bool) (s : State) → acts s (releases picked (s .sets)) ≡ runs (releaseStep picked) (length (s .sets)) s
 unfolding releases
 releases-run picked s = steps-all (due picked) s
+
+-- where every place is spared nothing is released
+module _ (picked : ℕ → Set → Bool) where
+  spared-from : (sets : List Set) (k : ℕ) → foldFrom (λ place set rest. spared picked place set && rest) true k sets ≡ true → foldFrom (λ place set rest. pick (due picked place set) (release place ∷ rest) rest) [] k sets ≡ []
+  spared-from [] k e = refl
+  spared-from (set ∷ sets) k e =
+      let h = and-both (spared picked k set) _ e in
+      pick-false (due picked k set) _ _ (not-true _ (h .0)) ∙ spared-from sets (suc k) (h .1)
+
+  pub spared-none : (sets : List Set) → each (spared picked) sets ≡ true → releases picked sets ≡ []
+  unfolding releases
+  spared-none sets e = spared-from sets 0 e

@@ -6,6 +6,8 @@ use Rattle.places.proofs.room_for.Reads as room-for
 use Rattle.places.proofs.room_for.Kinds as room-for-kinds
 use Rattle.places.proofs.take_page.Reads as take-page
 use Rattle.places.proofs.take_page.Kinds as take-page-kinds
+use Rattle.places.proofs.none_due.Reads as none-due
+use Rattle.places.proofs.none_due.Kinds as none-due-kinds
 use Rattle.places.proofs.release_by.Reads as release-by
 use Rattle.places.proofs.release_by.Kinds as release-by-kinds
 
@@ -17,6 +19,9 @@ room-for-settles κs a x y s t p q = same p q
 
 pub take-page-settles : SettlesAnswer 0 take-page-kinds.ps take-page-kinds.r take-page.Post
 take-page-settles κs a x y s t p q = same p q
+
+pub none-due-settles : SettlesAnswer 0 none-due-kinds.ps none-due-kinds.r none-due.Post
+none-due-settles κs a x y s t p q = same p q
 
 pub release-by-settles : SettlesAnswer 0 release-by-kinds.ps release-by-kinds.r release-by.Post
 release-by-settles κs a x y s t p q = same p q

@@ -61,6 +61,9 @@ acts s (a ∷ more) = acts (act s a) more
 abbrev pub due : (ℕ → Set → Bool) → ℕ → Set → Bool
 due picked place set = used set && picked place set
 
+abbrev pub spared : (ℕ → Set → Bool) → ℕ → Set → Bool
+spared picked place set = not (due picked place set)
+
 -- the releases of the places that are due, in rising order
 unfoldable pub releases : (ℕ → Set → Bool) → List Set → List Action
 releases picked = foldFrom (λ place set rest. pick (due picked place set) (release place ∷ rest) rest) [] 0

@@ -10,12 +10,12 @@ use page::Fields;
 use page::Page;
 ghost use mathlib.Core.Path.{_≡_};
 ghost use Prim.Native.Nat.{_<_};
-ghost use Rattle.arrays.specs.Arrays.{mapFrom, find, runs};
+ghost use Rattle.arrays.specs.Arrays.{mapFrom, each, find};
 ghost use Rattle.device.specs.Record.{state, device, placeCount};
 ghost use Rattle.device.specs.declared.Found.{Found};
 ghost use Rattle.arrays.specs.Base.{pick};
 ghost use Rattle.device.specs.Updates.{withScope};
-ghost use Rattle.places.specs.Actions.{drawn, release, establish, freed, act, acts, releases, ownPlace, releaseOwn, emptyLocal, unlockedLocal, freeAt, takenAt, room, establishIn, pageActions, settledNexus, settled, appended, supplemented, taken, releasedBy, releaseStep};
+ghost use Rattle.places.specs.Actions.{drawn, release, establish, freed, act, acts, due, spared, releases, ownPlace, releaseOwn, emptyLocal, unlockedLocal, freeAt, takenAt, room, establishIn, pageActions, settledNexus, settled, appended, supplemented, taken, releasedBy, releaseStep};
 
 const LOCAL: u8 = 1;
 
@@ -78,10 +78,10 @@ fn act(d: Device, place: usize, contents: Set) -> Device
     ensures { λ r. ⌜ r ≡ device (act (state d) (record { place = place; contents = contents })) ⌝ }
 {
     let number = draw(d.counter);
-    let nexuses = free_all(d, place);
     let mut set = contents;
     set.number = number;
     let mut out = d;
+    let nexuses = free_all(out, place);
     out.counter = number;
     out.sets[place] = set;
     out.nexuses = nexuses;
@@ -307,12 +307,31 @@ fn is_released(event: Event, place: usize, set: Set) -> bool
     }
 }
 
+// A place is due where it is used and the event releases its set.
+fn is_due(event: Event, place: usize, set: Set) -> bool
+    ensures { λ r. ⌜ r ≡ due (releasedBy event) place set ⌝ }
+{
+    (set.scope != 0) & is_released(event, place, set)
+}
+
+// No place is due.
+pub fn none_due(sets: [Set; PLACES], event: Event) -> bool
+    ensures { λ r. ⌜ r ≡ each (spared (releasedBy event)) sets ⌝ }
+{
+    let mut none = true;
+    for place in 0..PLACES {
+        let set = sets[place];
+        none = none & !is_due(event, place, set);
+    }
+    none
+}
+
 fn release_step(d: Device, event: Event, place: usize) -> Device
     requires { ⌜ place < placeCount ⌝ }
     ensures { λ r. ⌜ r ≡ device (releaseStep (releasedBy event) place (state d)) ⌝ }
 {
     let set = d.sets[place];
-    if (set.scope != 0) & is_released(event, place, set) {
+    if is_due(event, place, set) {
         return release(d, place);
     }
     d

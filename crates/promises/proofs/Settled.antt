@@ -58,6 +58,7 @@ pub use Rattle.marks.proofs.Settled.{clear-marks-settles as marks-clear-marks-s
 pub use Rattle.places.proofs.Settled.{own-place-settles as places-own-place-settles}
 pub use Rattle.places.proofs.Settled.{room-for-settles as places-room-for-settles}
 pub use Rattle.places.proofs.Settled.{take-page-settles as places-take-page-settles}
+pub use Rattle.places.proofs.Settled.{none-due-settles as places-none-due-settles}
 pub use Rattle.places.proofs.Settled.{release-by-settles as places-release-by-settles}
 -- crate drive
 pub use Rattle.drive.proofs.Settled.{power-on-settles as drive-power-on-settles}

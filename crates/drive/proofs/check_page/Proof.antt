@@ -1,4 +1,6 @@
 use borrow.Author.Needs.{needs}
+use Rattle.device.specs.Record.{state}
+use Rattle.drive.proofs.Alerts.{found}
 use Rattle.drive.proofs.check_page.Statement.{statement}
 use Rattle.drive.proofs.check_page.Tie as tie
 
@@ -8,5 +10,10 @@ check-page-spec =
     (tie.spec
     (λ c κs. search needs)
     (λ c κs. search needs)
+    (λ c. search needs)
+    (λ c. search needs)
     (λ c κs. search needs)
-    (λ c. simp (c .check .ensures, c .before .selected-set .ensures, c .before .before .nexus-at .ensures)))
+    (λ c.
+    let a = c .before .before .before .before .before .before .args in
+    let nexus = c .before .before .before .before .nexus-at .ensures in
+    simp (c .check .ensures, found (state (a .d)) (a .n) _ _ nexus (c .before .before .place-of .ensures .0), nexus)))

@@ -8,12 +8,13 @@ use Rattle.answer.specs.declared.Answer.{Answer}
 use Rattle.answer.specs.declared.Answer.the-variants.{KeyInstanceChanged, ParametersNotUsable}
 use Rattle.page.specs.Fields.{encrypts}
 use Rattle.device.specs.Record.{State, state, setAt, nexusAt}
-use Rattle.device.specs.Selecting.{placeOf, selected}
+use Rattle.device.specs.Selecting.{selected}
 use Rattle.device.specs.declared.Nexus.{Nexus}
 use Rattle.drive.specs.Calls.{write}
 use Rattle.drive.specs.Answers.{due, firstOf, heard, check11, check12, answer}
 use Rattle.drive.specs.Outcomes.{refusedWrite}
 use Rattle.drive.proofs.Checks.{first-stops, first-passes, told-fault, told-done, fault-told, done-told}
+use Rattle.drive.proofs.Alerts.{found}
 use Rattle.drive.proofs.Outcomes.{write-refused, write-done}
 use Rattle.drive.proofs.write.Statement.{statement}
 use Rattle.drive.proofs.write.Tie as tie
@@ -25,11 +26,6 @@ heard-first c =
     let a = c .before .before .before .args in
     let h = c .before .before .hear .ensures in
     h ∙ sym (first-stops (heard (state (a .d)) (a .n)) (check11 (state (a .d)) (a .n) ∷ check12 (state (a .d)) (a .n) (a .supported) ∷ []) (told-fault h (c .before .is-done .ensures) (c .if1 .taken)))
-
--- the place that the code found is the selected one
-found : (s : State) (n place : ℕ) (nexus : Nexus) → nexus ≡ nexusAt s n → place ≡ placeOf nexus n (s .sets) → place ≡ selected s n
-unfolding selected
-found s n place nexus e f = rw e at f
 
 -- checks 11 and 12 of the nexus and the set that the code found
 checked : (s : State) (n place : ℕ) (supported : Bool) (nexus : Nexus) (a : Answer) → nexus ≡ nexusAt s n → place ≡ selected s n

@@ -16,9 +16,9 @@ release-step-spec =
     (λ c κs. search needs)
     (λ c.
     let tested = c .before .before in
-    let a = tested .before .before .before .args in
-    c .release .ensures ∙ ap device (sym (pick-true _ (act (state (a .t1)) (release (a .place))) (state (a .t1)) (rw (tested .is-released .ensures) at (c .before .if1 .taken)))))
+    let a = tested .before .before .args in
+    c .release .ensures ∙ ap device (sym (pick-true _ (act (state (a .t1)) (release (a .place))) (state (a .t1)) (rw (tested .is-due .ensures) at (c .before .if1 .taken)))))
     (λ c.
     let tested = c .before in
-    let a = tested .before .before .before .args in
-    ap device (sym (pick-false _ (act (state (a .t1)) (release (a .place))) (state (a .t1)) (rw (tested .is-released .ensures) at (c .if1 .left))))))
+    let a = tested .before .before .args in
+    ap device (sym (pick-false _ (act (state (a .t1)) (release (a .place))) (state (a .t1)) (rw (tested .is-due .ensures) at (c .if1 .left))))))
