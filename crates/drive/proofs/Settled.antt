@@ -9,6 +9,8 @@ use Rattle.drive.proofs.security_in.Reads as security-in
 use Rattle.drive.proofs.security_in.Kinds as security-in-kinds
 use Rattle.drive.proofs.security_out.Reads as security-out
 use Rattle.drive.proofs.security_out.Kinds as security-out-kinds
+use Rattle.drive.proofs.write_known.Reads as write-known
+use Rattle.drive.proofs.write_known.Kinds as write-known-kinds
 use Rattle.drive.proofs.write.Reads as write
 use Rattle.drive.proofs.write.Kinds as write-kinds
 use Rattle.drive.proofs.unit_reset.Reads as unit-reset
@@ -24,6 +26,9 @@ security-in-settles κs a x y s t p q = both-same (p .0) (p .1) (q .0) (q .1)
 
 pub security-out-settles : SettlesAnswer 1 security-out-kinds.ps security-out-kinds.r security-out.Post
 security-out-settles κs a x y s t p q = same p q
+
+pub write-known-settles : SettlesAnswer 0 write-known-kinds.ps write-known-kinds.r write-known.Post
+write-known-settles κs a x y s t p q = same p q
 
 pub write-settles : SettlesAnswer 0 write-kinds.ps write-kinds.r write.Post
 write-settles κs a x y s t p q = same p q

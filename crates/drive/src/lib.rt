@@ -12,13 +12,14 @@ use places::Event;
 use places::Room;
 ghost use mathlib.Core.Path.{_≡_};
 ghost use mathlib.Core.List.{_∷_, [], _++_};
-ghost use mathlib.Core.Bool.{not, _&&_};
+ghost use mathlib.Core.Bool.{true, not, _&&_};
 ghost use lib.Dec.{leb, eqb};
 ghost use Rattle.arrays.specs.Arrays.{mapFrom};
 ghost use Rattle.wire.specs.Buffers.{Shown};
 ghost use Rattle.answer.specs.declared.Answer.{Answer};
 ghost use Rattle.page.specs.Fields.{encrypts};
 ghost use Rattle.device.specs.Record.{state, device, nexusCount, placeCount};
+ghost use Rattle.device.specs.WellFormed.{wellFormed};
 ghost use Rattle.device.specs.Updates.{registered, withAnother, withVendor, withMarks, atNexus};
 ghost use Rattle.drive.specs.Calls.{securityOut, unitReset, happens};
 ghost use Rattle.drive.specs.Answers.{due, firstOf, heard, check5, check6, isInPage, pageChecked, isNoRoom, check10, eventCheck};
@@ -75,13 +76,11 @@ pub fn power_on() -> Outcome
     }
 }
 
-// Checks 1 to 4, of security commands and writes.
-fn hear(d: Device, n: u8) -> Answer
+// Checks 2 to 4, of security commands and writes, where the record is known to be well formed.
+fn hear_known(d: Device, n: u8) -> Answer
+    requires { ⌜ wellFormed (state d) ≡ true ⌝ }
     ensures { λ r. ⌜ r ≡ firstOf (heard (state d) n) ⌝ }
 {
-    if !device::well_formed(d) {
-        return Answer::NotWellFormed;
-    }
     if NEXUSES <= n as usize {
         return Answer::NexusAbove;
     }
@@ -93,6 +92,16 @@ fn hear(d: Device, n: u8) -> Answer
         return Answer::ChangedByVendorEvent;
     }
     Answer::Done
+}
+
+// Checks 1 to 4.
+fn hear(d: Device, n: u8) -> Answer
+    ensures { λ r. ⌜ r ≡ firstOf (heard (state d) n) ⌝ }
+{
+    if !device::well_formed(d) {
+        return Answer::NotWellFormed;
+    }
+    hear_known(d, n)
 }
 
 // Checks 1 to 6, where it is known whether the page is supported.
@@ -426,11 +435,12 @@ fn refuse_write(d: Device, n: u8, answer: Answer) -> WriteOutcome
     }
 }
 
-// The write decision.
-pub fn write(d: Device, n: u8, supported: bool) -> WriteOutcome
+// The write decision, where the record is known to be well formed: for a replay or a batch.
+pub fn write_known(d: Device, n: u8, supported: bool) -> WriteOutcome
+    requires { ⌜ wellFormed (state d) ≡ true ⌝ }
     ensures { λ r. ⌜ r ≡ writeOutcome (state d) n supported ⌝ }
 {
-    let heard = hear(d, n);
+    let heard = hear_known(d, n);
     if !answer::is_done(heard) {
         return refuse_write(d, n, heard);
     }
@@ -449,6 +459,16 @@ pub fn write(d: Device, n: u8, supported: bool) -> WriteOutcome
         index: set.fields.index,
         device: d,
     }
+}
+
+// The write decision.
+pub fn write(d: Device, n: u8, supported: bool) -> WriteOutcome
+    ensures { λ r. ⌜ r ≡ writeOutcome (state d) n supported ⌝ }
+{
+    if !device::well_formed(d) {
+        return refuse_write(d, n, Answer::NotWellFormed);
+    }
+    write_known(d, n, supported)
 }
 
 // Logical unit reset clears registered marks and pending flags only.

@@ -64,6 +64,7 @@ pub use Rattle.places.proofs.Settled.{release-by-settles as places-release-by-s
 pub use Rattle.drive.proofs.Settled.{power-on-settles as drive-power-on-settles}
 pub use Rattle.drive.proofs.Settled.{security-in-settles as drive-security-in-settles}
 pub use Rattle.drive.proofs.Settled.{security-out-settles as drive-security-out-settles}
+pub use Rattle.drive.proofs.Settled.{write-known-settles as drive-write-known-settles}
 pub use Rattle.drive.proofs.Settled.{write-settles as drive-write-settles}
 pub use Rattle.drive.proofs.Settled.{unit-reset-settles as drive-unit-reset-settles}
 pub use Rattle.drive.proofs.Settled.{happen-settles as drive-happen-settles}
