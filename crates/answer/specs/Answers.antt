@@ -1,40 +1,44 @@
--- Document 01, "Answer numbers": the number and the sense bytes of each answer.
+-- Document 01, "Answer numbers": the table, a row for each answer.
 use Prim.Native.Nat.{ℕ}
 use mathlib.Core.Bool.{Bool}
 use lib.Dec.{eqb}
 use Rattle.answer.specs.declared.Answer.{Answer}
 use Rattle.answer.specs.declared.Answer.the-variants.{Done, NotWellFormed, NexusAbove, ChangedByAnotherNexus, ChangedByVendorEvent, ProtocolNotSupported, PageNotSupported, PageLengthWrong, FieldWrong, FifthSupplementalKey, NoPlaceForLocal, KeyInstanceChanged, ParametersNotUsable, PlaceAbove}
 use Rattle.answer.specs.declared.Sense.{Sense}
+use Rattle.answer.specs.declared.Change.{Change}
+use Rattle.answer.specs.declared.Change.the-variants.{Unchanged, AnotherCleared, VendorCleared, Registered}
+use Rattle.answer.specs.declared.Row.{Row}
 
--- one row of the table: the number, then sense key, ASC and ASCQ (zeros where there is none)
-pub record Row : Type 0 where
-  pub number : ℕ
-  pub sense : Sense
+-- one row: the number, then sense key, ASC and ASCQ (zeros where there is none), then what a refusal changes of its sender's marks
+-- ("none", "that flag cleared", "nexus registered")
+abbrev pub row : ℕ → ℕ → ℕ → ℕ → Change → Row
+row n key asc ascq change = record { number = n; sense = record { key = key; asc = asc; ascq = ascq }; change = change }
 
-abbrev pub row : ℕ → ℕ → ℕ → ℕ → Row
-row n key asc ascq = record { number = n; sense = record { key = key; asc = asc; ascq = ascq } }
-
+-- what "done" changes is ruled elsewhere
 abbrev pub rowOf : Answer → Row
-rowOf Done = row 0 0 0 0
-rowOf NotWellFormed = row 1 0 0 0
-rowOf NexusAbove = row 2 0 0 0
-rowOf ChangedByAnotherNexus = row 3 6 0x2A 0x11
-rowOf ChangedByVendorEvent = row 4 6 0x2A 0x12
-rowOf ProtocolNotSupported = row 5 5 0x24 0x00
-rowOf PageNotSupported = row 6 5 0x24 0x00
-rowOf PageLengthWrong = row 7 5 0x1A 0x00
-rowOf FieldWrong = row 8 5 0x26 0x00
-rowOf FifthSupplementalKey = row 9 5 0x55 0x08
-rowOf NoPlaceForLocal = row 10 5 0x55 0x03
-rowOf KeyInstanceChanged = row 11 7 0x2A 0x13
-rowOf ParametersNotUsable = row 12 7 0x74 0x07
-rowOf PlaceAbove = row 13 0 0 0
+rowOf Done = row 0 0 0 0 Unchanged
+rowOf NotWellFormed = row 1 0 0 0 Unchanged
+rowOf NexusAbove = row 2 0 0 0 Unchanged
+rowOf ChangedByAnotherNexus = row 3 6 0x2A 0x11 AnotherCleared
+rowOf ChangedByVendorEvent = row 4 6 0x2A 0x12 VendorCleared
+rowOf ProtocolNotSupported = row 5 5 0x24 0x00 Unchanged
+rowOf PageNotSupported = row 6 5 0x24 0x00 Registered
+rowOf PageLengthWrong = row 7 5 0x1A 0x00 Registered
+rowOf FieldWrong = row 8 5 0x26 0x00 Registered
+rowOf FifthSupplementalKey = row 9 5 0x55 0x08 Registered
+rowOf NoPlaceForLocal = row 10 5 0x55 0x03 Registered
+rowOf KeyInstanceChanged = row 11 7 0x2A 0x13 Unchanged
+rowOf ParametersNotUsable = row 12 7 0x74 0x07 Unchanged
+rowOf PlaceAbove = row 13 0 0 0 Unchanged
 
 abbrev pub numberOf : Answer → ℕ
 numberOf a = rowOf a .number
 
 abbrev pub senseOf : Answer → Sense
 senseOf a = rowOf a .sense
+
+abbrev pub changeOf : Answer → Change
+changeOf a = rowOf a .change
 
 -- answer 0
 abbrev pub isDone : Answer → Bool

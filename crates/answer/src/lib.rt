@@ -1,6 +1,6 @@
-// Every answer of document 01, "Answer numbers", with its number and its sense bytes.
+// Every answer of document 01, "Answer numbers": its number, its sense bytes and what a refusal changes in the record.
 ghost use mathlib.Core.Path.{_≡_};
-ghost use Rattle.answer.specs.Answers.{numberOf, senseOf, isDone};
+ghost use Rattle.answer.specs.Answers.{rowOf, senseOf, isDone};
 
 pub enum Answer {
     Done,
@@ -26,115 +26,190 @@ pub struct Sense {
     pub ascq: u8,
 }
 
-// The answer's number in document 01.
-pub fn number_of(answer: Answer) -> u8
-    ensures { λ r. ⌜ r ≡ numberOf answer ⌝ }
-{
-    match answer {
-        Answer::Done => 0,
-        Answer::NotWellFormed => 1,
-        Answer::NexusAbove => 2,
-        Answer::ChangedByAnotherNexus => 3,
-        Answer::ChangedByVendorEvent => 4,
-        Answer::ProtocolNotSupported => 5,
-        Answer::PageNotSupported => 6,
-        Answer::PageLengthWrong => 7,
-        Answer::FieldWrong => 8,
-        Answer::FifthSupplementalKey => 9,
-        Answer::NoPlaceForLocal => 10,
-        Answer::KeyInstanceChanged => 11,
-        Answer::ParametersNotUsable => 12,
-        Answer::PlaceAbove => 13,
-    }
-}
-
 impl Sense {
-    const NONE: Sense = Sense {
+    pub const NONE: Sense = Sense {
         key: 0,
         asc: 0,
         ascq: 0,
     };
+}
 
-    const CHANGED_BY_ANOTHER_NEXUS: Sense = Sense {
-        key: 6,
-        asc: 0x2A,
-        ascq: 0x11,
+// The column "Record change": what a refusal changes, in the marks of the nexus that sent the call.
+pub enum Change {
+    Unchanged,
+    AnotherCleared,
+    VendorCleared,
+    Registered,
+}
+
+// A row of the table.
+pub struct Row {
+    pub number: u8,
+    pub sense: Sense,
+    pub change: Change,
+}
+
+// Document 01's table: number; sense key, ASC and ASCQ (zeros where there is none); record change.
+impl Row {
+    const DONE: Row = Row {
+        number: 0,
+        sense: Sense::NONE,
+        change: Change::Unchanged,
     };
 
-    const CHANGED_BY_VENDOR_EVENT: Sense = Sense {
-        key: 6,
-        asc: 0x2A,
-        ascq: 0x12,
+    const NOT_WELL_FORMED: Row = Row {
+        number: 1,
+        sense: Sense::NONE,
+        change: Change::Unchanged,
     };
 
-    const COMMAND_FIELD: Sense = Sense {
-        key: 5,
-        asc: 0x24,
-        ascq: 0,
+    const NEXUS_ABOVE: Row = Row {
+        number: 2,
+        sense: Sense::NONE,
+        change: Change::Unchanged,
     };
 
-    const PAGE_LENGTH: Sense = Sense {
-        key: 5,
-        asc: 0x1A,
-        ascq: 0,
+    const CHANGED_BY_ANOTHER_NEXUS: Row = Row {
+        number: 3,
+        sense: Sense {
+            key: 6,
+            asc: 0x2A,
+            ascq: 0x11,
+        },
+        change: Change::AnotherCleared,
     };
 
-    const PAGE_FIELD: Sense = Sense {
-        key: 5,
-        asc: 0x26,
-        ascq: 0,
+    const CHANGED_BY_VENDOR_EVENT: Row = Row {
+        number: 4,
+        sense: Sense {
+            key: 6,
+            asc: 0x2A,
+            ascq: 0x12,
+        },
+        change: Change::VendorCleared,
     };
 
-    const SUPPLEMENTAL_KEYS: Sense = Sense {
-        key: 5,
-        asc: 0x55,
-        ascq: 0x08,
+    const PROTOCOL_NOT_SUPPORTED: Row = Row {
+        number: 5,
+        sense: Sense {
+            key: 5,
+            asc: 0x24,
+            ascq: 0,
+        },
+        change: Change::Unchanged,
     };
 
-    const PLACES: Sense = Sense {
-        key: 5,
-        asc: 0x55,
-        ascq: 0x03,
+    const PAGE_NOT_SUPPORTED: Row = Row {
+        number: 6,
+        sense: Sense {
+            key: 5,
+            asc: 0x24,
+            ascq: 0,
+        },
+        change: Change::Registered,
     };
 
-    const KEY_INSTANCE: Sense = Sense {
-        key: 7,
-        asc: 0x2A,
-        ascq: 0x13,
+    const PAGE_LENGTH_WRONG: Row = Row {
+        number: 7,
+        sense: Sense {
+            key: 5,
+            asc: 0x1A,
+            ascq: 0,
+        },
+        change: Change::Registered,
     };
 
-    const PARAMETERS: Sense = Sense {
-        key: 7,
-        asc: 0x74,
-        ascq: 0x07,
+    const FIELD_WRONG: Row = Row {
+        number: 8,
+        sense: Sense {
+            key: 5,
+            asc: 0x26,
+            ascq: 0,
+        },
+        change: Change::Registered,
+    };
+
+    const FIFTH_SUPPLEMENTAL_KEY: Row = Row {
+        number: 9,
+        sense: Sense {
+            key: 5,
+            asc: 0x55,
+            ascq: 0x08,
+        },
+        change: Change::Registered,
+    };
+
+    const NO_PLACE_FOR_LOCAL: Row = Row {
+        number: 10,
+        sense: Sense {
+            key: 5,
+            asc: 0x55,
+            ascq: 0x03,
+        },
+        change: Change::Registered,
+    };
+
+    const KEY_INSTANCE_CHANGED: Row = Row {
+        number: 11,
+        sense: Sense {
+            key: 7,
+            asc: 0x2A,
+            ascq: 0x13,
+        },
+        change: Change::Unchanged,
+    };
+
+    const PARAMETERS_NOT_USABLE: Row = Row {
+        number: 12,
+        sense: Sense {
+            key: 7,
+            asc: 0x74,
+            ascq: 0x07,
+        },
+        change: Change::Unchanged,
+    };
+
+    const PLACE_ABOVE: Row = Row {
+        number: 13,
+        sense: Sense::NONE,
+        change: Change::Unchanged,
     };
 }
 
-// The answer's sense bytes in document 01.
+// The answer's row in document 01's table.
+pub fn row_of(answer: Answer) -> Row
+    ensures { λ r. ⌜ r ≡ rowOf answer ⌝ }
+{
+    match answer {
+        Answer::Done => Row::DONE,
+        Answer::NotWellFormed => Row::NOT_WELL_FORMED,
+        Answer::NexusAbove => Row::NEXUS_ABOVE,
+        Answer::ChangedByAnotherNexus => Row::CHANGED_BY_ANOTHER_NEXUS,
+        Answer::ChangedByVendorEvent => Row::CHANGED_BY_VENDOR_EVENT,
+        Answer::ProtocolNotSupported => Row::PROTOCOL_NOT_SUPPORTED,
+        Answer::PageNotSupported => Row::PAGE_NOT_SUPPORTED,
+        Answer::PageLengthWrong => Row::PAGE_LENGTH_WRONG,
+        Answer::FieldWrong => Row::FIELD_WRONG,
+        Answer::FifthSupplementalKey => Row::FIFTH_SUPPLEMENTAL_KEY,
+        Answer::NoPlaceForLocal => Row::NO_PLACE_FOR_LOCAL,
+        Answer::KeyInstanceChanged => Row::KEY_INSTANCE_CHANGED,
+        Answer::ParametersNotUsable => Row::PARAMETERS_NOT_USABLE,
+        Answer::PlaceAbove => Row::PLACE_ABOVE,
+    }
+}
+
+// The answer's sense bytes.
 pub fn sense_of(answer: Answer) -> Sense
     ensures { λ r. ⌜ r ≡ senseOf answer ⌝ }
 {
-    match answer {
-        Answer::Done => Sense::NONE,
-        Answer::NotWellFormed => Sense::NONE,
-        Answer::NexusAbove => Sense::NONE,
-        Answer::ChangedByAnotherNexus => Sense::CHANGED_BY_ANOTHER_NEXUS,
-        Answer::ChangedByVendorEvent => Sense::CHANGED_BY_VENDOR_EVENT,
-        Answer::ProtocolNotSupported => Sense::COMMAND_FIELD,
-        Answer::PageNotSupported => Sense::COMMAND_FIELD,
-        Answer::PageLengthWrong => Sense::PAGE_LENGTH,
-        Answer::FieldWrong => Sense::PAGE_FIELD,
-        Answer::FifthSupplementalKey => Sense::SUPPLEMENTAL_KEYS,
-        Answer::NoPlaceForLocal => Sense::PLACES,
-        Answer::KeyInstanceChanged => Sense::KEY_INSTANCE,
-        Answer::ParametersNotUsable => Sense::PARAMETERS,
-        Answer::PlaceAbove => Sense::NONE,
-    }
+    let row = row_of(answer);
+    row.sense
 }
 
 // Answer 0: the call was carried out.
 pub fn is_done(answer: Answer) -> bool
     ensures { λ r. ⌜ r ≡ isDone answer ⌝ }
 {
-    number_of(answer) == 0
+    let row = row_of(answer);
+    row.number == 0
 }

@@ -1,6 +1,7 @@
 // Makes one kind of call many times over, for counting its instructions (bench/run). Input: the kind, the turns divided by ten, and
 // the nexus that calls.
-use device::Device;
+use device_16::Device;
+use drive::Command;
 use places::Event;
 
 fn page_k() -> [u8; 52] {
@@ -17,11 +18,19 @@ fn page_k() -> [u8; 52] {
     p
 }
 
+fn command(nexus: u8, code: u16) -> Command {
+    Command {
+        nexus,
+        protocol: 0x20,
+        code,
+    }
+}
+
 fn writes(start: Device, n: u8, turns: u32) -> Device {
     let mut d = start;
     let mut i: u32 = 0;
     while i < turns {
-        let w = drive::write(d, n, true);
+        let w = drive_16::write(d, n, true);
         let next = w.device;
         d = next;
         i += 1;
@@ -34,7 +43,7 @@ fn ins(start: Device, n: u8, turns: u32) -> Device {
     let mut i: u32 = 0;
     while i < turns {
         let mut buffer = [0u8; 64];
-        let w = drive::security_in(d, n, 0x20, 0x20, &mut buffer);
+        let w = drive_16::security_in(d, command(n, 0x20), &mut buffer);
         let next = w.device;
         d = next;
         i += 1;
@@ -47,7 +56,7 @@ fn outs(start: Device, n: u8, turns: u32) -> Device {
     let page = page_k();
     let mut i: u32 = 0;
     while i < turns {
-        let w = drive::security_out(d, n, 0x20, 0x10, &page);
+        let w = drive_16::security_out(d, command(n, 0x10), &page);
         let next = w.device;
         d = next;
         i += 1;
@@ -59,7 +68,7 @@ fn events(start: Device, turns: u32, event: Event) -> Device {
     let mut d = start;
     let mut i: u32 = 0;
     while i < turns {
-        let w = drive::happen(d, event);
+        let w = drive_16::happen(d, event);
         let next = w.device;
         d = next;
         i += 1;
@@ -94,9 +103,9 @@ fn main() {
     let mut input = [0u8; 3];
     libc::read(0, &mut input);
     let page = page_k();
-    let first = drive::power_on();
+    let first = drive_16::power_on();
     let on = first.device;
-    let sent = drive::security_out(on, 3, 0x20, 0x10, &page);
+    let sent = drive_16::security_out(on, command(3, 0x10), &page);
     let start = sent.device;
     let kind = input[0];
     let turns = turns_of(input[1]);

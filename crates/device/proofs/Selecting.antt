@@ -106,3 +106,8 @@ module _ (s : State) (w : wellFormed s ≡ true) where
   selected-owner place h u =
       selected-only (setAt s place .owner) place (owner-at s w place h u)
       (both _ _ (eq-eqb _ _ (scope-at s w place u ∙ place-local place h)) (eq-eqb (setAt s place .owner) (setAt s place .owner) refl))
+
+-- the place that the code found is the selected one
+pub found : (s : State) (n place : ℕ) (nexus : Nexus) → nexus ≡ nexusAt s n → place ≡ placeOf nexus n (s .sets) → place ≡ selected s n
+unfolding selected
+found s n place nexus e f = rw e at f

@@ -2,46 +2,26 @@
 use Rattle.settled.specs.Settles.{SettlesAnswer, same}
 use Rattle.device.proofs.Set.established.Reads as established
 use Rattle.device.proofs.Set.established.Kinds as established-kinds
-use Rattle.device.proofs.power_on.Reads as power-on
-use Rattle.device.proofs.power_on.Kinds as power-on-kinds
-use Rattle.device.proofs.owned_place.Reads as owned-place
-use Rattle.device.proofs.owned_place.Kinds as owned-place-kinds
-use Rattle.device.proofs.nexus_at.Reads as nexus-at
-use Rattle.device.proofs.nexus_at.Kinds as nexus-at-kinds
-use Rattle.device.proofs.place_of.Reads as place-of
-use Rattle.device.proofs.place_of.Kinds as place-of-kinds
-use Rattle.device.proofs.selected.Reads as selected
-use Rattle.device.proofs.selected.Kinds as selected-kinds
-use Rattle.device.proofs.selected_set.Reads as selected-set
-use Rattle.device.proofs.selected_set.Kinds as selected-set-kinds
-use Rattle.device.proofs.well_formed.Reads as well-formed
-use Rattle.device.proofs.well_formed.Kinds as well-formed-kinds
-use Rattle.device.proofs.with_nexus.Reads as with-nexus
-use Rattle.device.proofs.with_nexus.Kinds as with-nexus-kinds
+use Rattle.device.proofs.is_owned.Reads as is-owned
+use Rattle.device.proofs.is_owned.Kinds as is-owned-kinds
+use Rattle.device.proofs.or_else.Reads as or-else
+use Rattle.device.proofs.or_else.Kinds as or-else-kinds
+use Rattle.device.proofs.set_fits.Reads as set-fits
+use Rattle.device.proofs.set_fits.Kinds as set-fits-kinds
+use Rattle.device.proofs.empty_is_zero.Reads as empty-is-zero
+use Rattle.device.proofs.empty_is_zero.Kinds as empty-is-zero-kinds
 
 pub established-settles : SettlesAnswer 0 established-kinds.ps established-kinds.r established.Post
 established-settles κs a x y s t p q = same p q
 
-pub power-on-settles : SettlesAnswer 0 power-on-kinds.ps power-on-kinds.r power-on.Post
-power-on-settles κs a x y s t p q = same p q
+pub is-owned-settles : SettlesAnswer 0 is-owned-kinds.ps is-owned-kinds.r is-owned.Post
+is-owned-settles κs a x y s t p q = same p q
 
-pub owned-place-settles : SettlesAnswer 0 owned-place-kinds.ps owned-place-kinds.r owned-place.Post
-owned-place-settles κs a x y s t p q = same p q
+pub or-else-settles : SettlesAnswer 0 or-else-kinds.ps or-else-kinds.r or-else.Post
+or-else-settles κs a x y s t p q = same p q
 
-pub nexus-at-settles : SettlesAnswer 0 nexus-at-kinds.ps nexus-at-kinds.r nexus-at.Post
-nexus-at-settles κs a x y s t p q = same p q
+pub set-fits-settles : SettlesAnswer 0 set-fits-kinds.ps set-fits-kinds.r set-fits.Post
+set-fits-settles κs a x y s t p q = same p q
 
-pub place-of-settles : SettlesAnswer 0 place-of-kinds.ps place-of-kinds.r place-of.Post
-place-of-settles κs a x y s t p q = same (p .0) (q .0)
-
-pub selected-settles : SettlesAnswer 0 selected-kinds.ps selected-kinds.r selected.Post
-selected-settles κs a x y s t p q = same (p .0) (q .0)
-
-pub selected-set-settles : SettlesAnswer 0 selected-set-kinds.ps selected-set-kinds.r selected-set.Post
-selected-set-settles κs a x y s t p q = same p q
-
-pub well-formed-settles : SettlesAnswer 0 well-formed-kinds.ps well-formed-kinds.r well-formed.Post
-well-formed-settles κs a x y s t p q = same p q
-
-pub with-nexus-settles : SettlesAnswer 0 with-nexus-kinds.ps with-nexus-kinds.r with-nexus.Post
-with-nexus-settles κs a x y s t p q = same p q
+pub empty-is-zero-settles : SettlesAnswer 0 empty-is-zero-kinds.ps empty-is-zero-kinds.r empty-is-zero.Post
+empty-is-zero-settles κs a x y s t p q = same p q

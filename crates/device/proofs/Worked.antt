@@ -10,7 +10,7 @@ use Rattle.kad.specs.Kad.{uMost, aMost, noKads}
 use Rattle.kad.specs.declared.Kads.{Kads}
 use Rattle.page.specs.Fields.{keySize, noFields}
 use Rattle.page.specs.declared.Fields.{Fields}
-use Rattle.device.specs.Record.{State, nexusCount, placeCount, supplementalSize, localScope, allScope, established, emptySet, noMarks, newNexus, powerOn}
+use Rattle.device.specs.Record.{State, supplementalSize, localScope, allScope, established, emptySet, noMarks, newNexus, powerOn}
 use Rattle.device.specs.Selecting.{ownedPlace, selected}
 use Rattle.device.specs.WellFormed.{setGood, nexusGood, ownerIsLocal, wellFormed}
 use Rattle.device.specs.declared.Supplemental.{Supplemental}
@@ -107,7 +107,7 @@ former s = record { counter = 7; sets = set sets 0 s; nexuses = set nexuses 5 ne
 
 abbrev formed : List State
 formed =
-    powerOn nexusCount placeCount
+    powerOn 16 5
     ∷ busy
     -- an empty place has any number
     ∷ withSet 4 (emptySet 4294967295)
@@ -153,7 +153,7 @@ spoilt =
     -- two nexuses that are ALL, one that does not own place 0, one whose place 0 is empty
     ∷ withNexus 9 allScope
     ∷ withSet 0 (plain 9 allScope)
-    ∷ record { counter = 0; sets = replicate placeCount (emptySet 0); nexuses = nexusOf allScope ∷ replicate 15 newNexus }
+    ∷ record { counter = 0; sets = replicate 5 (emptySet 0); nexuses = nexusOf allScope ∷ replicate 15 newNexus }
     -- an empty place with an owner, a mode, an index, CEEM, CKOD, a byte of a key, key-associated data, a supplemental key
     ∷ withSet 3 (established 1 0 7 noFields)
     ∷ withEmpty (fieldsOf 1 0 0 0 false [] noKads)

@@ -4,21 +4,12 @@ use mathlib.Core.Bool.{Bool, false, not}
 use mathlib.Core.List.{List, []}
 use lib.Dec.{eqb}
 use lib.ListN.{getD, replicate}
-use Rattle.kad.specs.declared.Kads.{Kads}
 use Rattle.page.specs.Fields.{noFields}
 use Rattle.page.specs.declared.Fields.{Fields}
 use Rattle.device.specs.declared.Supplemental.{Supplemental}
 use Rattle.device.specs.declared.Set.{Set}
 use Rattle.device.specs.declared.Marks.{Marks}
 use Rattle.device.specs.declared.Nexus.{Nexus}
-use Rattle.device.specs.declared.Device.{Device}
-
--- "Sizes: nexuses 0 to 15; set places 0 to 4"
-abbrev pub nexusCount : ℕ
-nexusCount = 16
-
-abbrev pub placeCount : ℕ
-placeCount = 5
 
 -- the bytes of all supplemental keys of a set
 abbrev pub supplementalSize : ℕ
@@ -29,12 +20,6 @@ pub record State : Type 0 where
   pub counter : ℕ
   pub sets : List Set
   pub nexuses : List Nexus
-
-abbrev pub state : Device → State
-state d = record { counter = d .counter; sets = d .sets; nexuses = d .nexuses }
-
-abbrev pub device : State → Device
-device s = record { counter = s .counter; sets = s .sets; nexuses = s .nexuses }
 
 -- codes of a scope
 abbrev pub publicScope : ℕ

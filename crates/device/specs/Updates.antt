@@ -1,7 +1,7 @@
 -- One field of a nexus, of its marks, of a set or of the record changed, the others kept.
 use Prim.Native.Nat.{ℕ}
 use mathlib.Core.Bool.{Bool, true}
-use mathlib.Core.List.{List}
+use mathlib.Core.List.{List, map}
 use lib.ListN.{set}
 use Rattle.device.specs.Record.{State, setAt, nexusAt}
 use Rattle.device.specs.declared.Supplemental.{Supplemental}
@@ -42,3 +42,7 @@ atPlace place f s = withSets (set (s .sets) place (f (setAt s place))) s
 
 abbrev pub atNexus : ℕ → (Nexus → Nexus) → State → State
 atNexus n f s = withNexuses (set (s .nexuses) n (f (nexusAt s n))) s
+
+-- the counter, each set and each nexus made anew
+abbrev pub mapped : (ℕ → ℕ) → (Set → Set) → (Nexus → Nexus) → State → State
+mapped c f g s = record { counter = c (s .counter); sets = map f (s .sets); nexuses = map g (s .nexuses) }

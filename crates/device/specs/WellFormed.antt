@@ -51,6 +51,9 @@ abbrev pub emptyIsZero : Set → Bool
 emptyIsZero set = used set || setZero set
 
 -- what is asked of the set in a place by itself
+abbrev pub setFits : ℕ → ℕ → Set → Bool
+setFits nexuses place set = setCodes nexuses set && setTails set && scopeFits place set
+
 unfoldable pub setGood : ℕ → ℕ → Set → Bool
 setGood nexuses place set = setCodes nexuses set && setTails set && scopeFits place set && emptyIsZero set
 

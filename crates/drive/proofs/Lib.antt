@@ -1,6 +1,8 @@
-pub mod Alerts
 pub mod Checks
+pub mod Effects
+pub mod Events
+pub mod Keeps
+pub mod Refusals
 pub mod Same
-pub mod Outcomes
 pub mod Settled
 pub mod Table

@@ -1,40 +1,47 @@
 -- Every public call's promise settles its answer, the record, and each byte of a lent buffer.
-use mathlib.Core.List.{List}
-use Prim.Native.Nat.{ℕ}
-use denote.Ref.{now}
-use Rattle.settled.specs.Settles.{Settles, SettlesAnswer, same, both-same}
-use Rattle.drive.proofs.power_on.Reads as power-on
-use Rattle.drive.proofs.power_on.Kinds as power-on-kinds
-use Rattle.drive.proofs.security_in.Reads as security-in
-use Rattle.drive.proofs.security_in.Kinds as security-in-kinds
-use Rattle.drive.proofs.security_out.Reads as security-out
-use Rattle.drive.proofs.security_out.Kinds as security-out-kinds
-use Rattle.drive.proofs.write_known.Reads as write-known
-use Rattle.drive.proofs.write_known.Kinds as write-known-kinds
-use Rattle.drive.proofs.write.Reads as write
-use Rattle.drive.proofs.write.Kinds as write-kinds
-use Rattle.drive.proofs.unit_reset.Reads as unit-reset
-use Rattle.drive.proofs.unit_reset.Kinds as unit-reset-kinds
-use Rattle.drive.proofs.happen.Reads as happen
-use Rattle.drive.proofs.happen.Kinds as happen-kinds
+use Rattle.settled.specs.Settles.{SettlesAnswer, same}
+use Rattle.drive.proofs.hear.Reads as hear
+use Rattle.drive.proofs.hear.Kinds as hear-kinds
+use Rattle.drive.proofs.check_command.Reads as check-command
+use Rattle.drive.proofs.check_command.Kinds as check-command-kinds
+use Rattle.drive.proofs.is_in_page.Reads as is-in-page
+use Rattle.drive.proofs.is_in_page.Kinds as is-in-page-kinds
+use Rattle.drive.proofs.is_out_page.Reads as is-out-page
+use Rattle.drive.proofs.is_out_page.Kinds as is-out-page-kinds
+use Rattle.drive.proofs.check_write.Reads as check-write
+use Rattle.drive.proofs.check_write.Kinds as check-write-kinds
+use Rattle.drive.proofs.decide.Reads as decide
+use Rattle.drive.proofs.decide.Kinds as decide-kinds
+use Rattle.drive.proofs.value_of.Reads as value-of
+use Rattle.drive.proofs.value_of.Kinds as value-of-kinds
+use Rattle.drive.proofs.check_event.Reads as check-event
+use Rattle.drive.proofs.check_event.Kinds as check-event-kinds
+use Rattle.drive.proofs.actor_of.Reads as actor-of
+use Rattle.drive.proofs.actor_of.Kinds as actor-of-kinds
 
-pub power-on-settles : SettlesAnswer 0 power-on-kinds.ps power-on-kinds.r power-on.Post
-power-on-settles κs a x y s t p q = same p q
+pub hear-settles : SettlesAnswer 0 hear-kinds.ps hear-kinds.r hear.Post
+hear-settles κs a x y s t p q = same p q
 
-pub security-in-settles : Settles 1 security-in-kinds.ps security-in-kinds.r (List ℕ) (λ κs s. now (s .1 .1 .1 .1 .0)) security-in.Post
-security-in-settles κs a x y s t p q = both-same (p .0) (p .1) (q .0) (q .1)
+pub check-command-settles : SettlesAnswer 0 check-command-kinds.ps check-command-kinds.r check-command.Post
+check-command-settles κs a x y s t p q = same p q
 
-pub security-out-settles : SettlesAnswer 1 security-out-kinds.ps security-out-kinds.r security-out.Post
-security-out-settles κs a x y s t p q = same p q
+pub is-in-page-settles : SettlesAnswer 0 is-in-page-kinds.ps is-in-page-kinds.r is-in-page.Post
+is-in-page-settles κs a x y s t p q = same p q
 
-pub write-known-settles : SettlesAnswer 0 write-known-kinds.ps write-known-kinds.r write-known.Post
-write-known-settles κs a x y s t p q = same p q
+pub is-out-page-settles : SettlesAnswer 0 is-out-page-kinds.ps is-out-page-kinds.r is-out-page.Post
+is-out-page-settles κs a x y s t p q = same p q
 
-pub write-settles : SettlesAnswer 0 write-kinds.ps write-kinds.r write.Post
-write-settles κs a x y s t p q = same p q
+pub check-write-settles : SettlesAnswer 0 check-write-kinds.ps check-write-kinds.r check-write.Post
+check-write-settles κs a x y s t p q = same p q
 
-pub unit-reset-settles : SettlesAnswer 0 unit-reset-kinds.ps unit-reset-kinds.r unit-reset.Post
-unit-reset-settles κs a x y s t p q = same p q
+pub decide-settles : SettlesAnswer 0 decide-kinds.ps decide-kinds.r decide.Post
+decide-settles κs a x y s t p q = same p q
 
-pub happen-settles : SettlesAnswer 0 happen-kinds.ps happen-kinds.r happen.Post
-happen-settles κs a x y s t p q = same p q
+pub value-of-settles : SettlesAnswer 0 value-of-kinds.ps value-of-kinds.r value-of.Post
+value-of-settles κs a x y s t p q = same p q
+
+pub check-event-settles : SettlesAnswer 0 check-event-kinds.ps check-event-kinds.r check-event.Post
+check-event-settles κs a x y s t p q = same p q
+
+pub actor-of-settles : SettlesAnswer 0 actor-of-kinds.ps actor-of-kinds.r actor-of.Post
+actor-of-settles κs a x y s t p q = same p q

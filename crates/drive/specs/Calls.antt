@@ -3,11 +3,23 @@ use Prim.Native.Nat.{ℕ}
 use mathlib.Core.Bool.{Bool}
 use mathlib.Core.List.{List}
 use Rattle.places.specs.declared.Event.{Event}
+use Rattle.drive.specs.declared.Command.{Command}
+use Rattle.marks.specs.declared.Actor.{Actor}
+use Rattle.marks.specs.declared.Actor.the-variants.{Nobody, Acting}
 
 pub data Call : Type 0 where
   powerUp : Call
-  securityIn : (nexus protocol code : ℕ) → Call
-  securityOut : (nexus protocol code : ℕ) (page : List ℕ) → Call
+  securityIn : Command → Call
+  securityOut : Command → (page : List ℕ) → Call
   write : (nexus : ℕ) (supported : Bool) → Call
   unitReset : Call
   happens : Event → Call
+
+-- the nexus that sends a security command or a write; other calls have none
+abbrev pub senderOf : Call → Actor
+senderOf powerUp = Nobody
+senderOf (securityIn command) = Acting (command .nexus)
+senderOf (securityOut command page) = Acting (command .nexus)
+senderOf (write n supported) = Acting n
+senderOf unitReset = Nobody
+senderOf (happens event) = Nobody

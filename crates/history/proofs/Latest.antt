@@ -1,113 +1,121 @@
--- A locked nexus has sent a page, and the reading of its history is by the latest.
+-- A locked nexus has sent a page, and what its numbers tell of the calls since.
 -- Assumes nothing.
-use Prim.Native.Nat.{ℕ, suc, _<_, _^_}
-use mathlib.Core.Bool.{true, not, _&&_}
-use mathlib.Core.List.{List, [], _∷_}
-use mathlib.Core.Path.{_≡_, refl, sym, _∙_, ap, ap₂, subst₂}
-use native.Mathlib.Omega.{arith}
-use lib.ListN.{length}
-use Rattle.arrays.proofs.Base.{cases, clash}
+use Prim.Native.Nat.{ℕ, _<_}
+use mathlib.Core.Bool.{Bool, true, false, not, _&&_, _||_, or-assoc, or-false}
+use mathlib.Core.List.{List, [], _∷_, _++_}
+use mathlib.Core.Path.{_≡_, refl, _∙_, ap, ap₂}
+use lib.Dec.{eqb}
+use borrow.Author.Tests.{not-true}
+use Rattle.arrays.proofs.Base.{cases, clash, and-left, and-right}
+use Rattle.answer.specs.Answers.{numberOf}
+use Rattle.answer.specs.declared.Answer.the-variants.{KeyInstanceChanged, ParametersNotUsable}
+use Rattle.page.specs.Fields.{encrypts}
 use Rattle.device.specs.Record.{State, powerOn, nexusAt}
-use Rattle.device.specs.Selecting.{selected}
-use Rattle.device.specs.declared.Found.the-variants.{Nowhere}
+use Rattle.device.specs.Selecting.{selected, selectedSet}
+use Rattle.places.proofs.Lengths.{power-places, power-nexuses}
 use Rattle.drive.specs.Calls.{Call}
-use Rattle.drive.specs.After.{actions, after}
-use Rattle.drive.specs.Runs.{runFrom, run, draws}
-use Rattle.history.specs.History.{struck, start, traceFrom, accepts, silent, Latest, Trail, followed, trailFrom}
-use Rattle.history.proofs.Numbers.{Fits, Low}
-use Rattle.history.proofs.Strike.{selected-struck, actions-struck, accepts-struck, strike-commutes}
-use Rattle.history.proofs.Good.{Good, power-good, power-unlocked}
-use Rattle.history.proofs.Calls.{forget, Stepped, step}
+use Rattle.drive.specs.Answers.{due, firstOf}
+use Rattle.drive.specs.Effects.{effect}
+use Rattle.drive.specs.After.{byNumber, actions, after}
+use Rattle.drive.specs.Runs.{runFrom, run}
+use Rattle.drive.proofs.Effects.{taken-answered, own-answer}
+use Rattle.history.specs.History.{accepts, ranFrom, isHeard, isStopped, silent, touched, LatestPage, leftBy, drewOf, drewFrom}
+use Rattle.history.proofs.Numbers.{power-sound}
+use Rattle.history.proofs.Runs.{run-append, Calm, Steady, one, rest, run-size, run-sound, steady-first, steady-later, power-steady}
+use Rattle.history.proofs.Held.{Mark, view, agree}
+use Rattle.history.proofs.Good.{Base, Good, accepted-is, own-good, other-good, power-unlocked, lock-kept}
 
--- what a call adds to the reading it adds without a look at a number
-followed-struck : (n i : ℕ) (s : State) (call : Call) (t : Trail) → Low s (length (actions s call)) → followed n i (struck s) call t ≡ followed n i s call t
-unfolding followed
-followed-struck n i s call t w =
-    let same : selected (after (struck s) call) n ≡ selected (after s call) n =
-    sym (selected-struck (after (struck s) call) n) ∙ ap (λ x. selected x n) (sym (strike-commutes s call w)) ∙ selected-struck (after s call) n in
-    rw (accepts-struck n s call, actions-struck s call, same)
-
-module _ (n i : ℕ) (s : State) (t : Trail) (g : Good n (forget t) s) (call : Call) (later : List Call) (fits : Fits s (draws s (call ∷ later))) where
-  one : Fits s (length (actions s call))
-  unfolding draws
-  one = omega arith
-
-  low : Low s (length (actions s call))
-  low = record { some = g .some; low = g .inv .sound .low; fits = one }
-
-  stepped : Stepped n i s call t
-  stepped = step n i s t g call one
-
-  rest : Fits (after s call) (draws (after s call) later)
-  unfolding draws
-  rest = omega (arith, stepped .counter)
-
--- the invariant holds of the record that a history leaves, with the reading of the history
-pub run-good : (n : ℕ) (l : List Call) (i : ℕ) (s : State) (t : Trail) → Good n (forget t) s → Fits s (draws s l) → Good n (forget (trailFrom n i (struck s) l t)) (runFrom s l)
-unfolding trailFrom runFrom
-run-good n [] i s t g fits = g
-run-good n (c ∷ l) i s t g fits =
-    let w = low n i s t g c l fits in
-    subst₂ (λ x y. Good n (forget (trailFrom n (suc i) x l y)) (runFrom (after s c) l)) (strike-commutes s c w) (sym (followed-struck n i s c t w))
-    (run-good n l (suc i) (after s c) (followed n i s c t) (stepped n i s t g c l fits .good) (rest n i s t g c l fits))
-
--- a history without numbers is the history, its numbers struck out
-pub trace-run : (n : ℕ) (l : List Call) (i : ℕ) (s : State) (t : Trail) → Good n (forget t) s → Fits s (draws s l) → traceFrom (struck s) l ≡ struck (runFrom s l)
-unfolding traceFrom runFrom
-trace-run n [] i s t g fits = refl
-trace-run n (c ∷ l) i s t g fits =
-    ap (λ x. traceFrom x l) (sym (strike-commutes s c (low n i s t g c l fits)))
-    ∙ trace-run n l (suc i) (after s c) (followed n i s c t) (stepped n i s t g c l fits .good) (rest n i s t g c l fits)
+-- ---- the latest page
 
 -- what is seen of a history that leaves the nexus locked: it has a latest page, or the nexus was locked before and sent none
-data Seen (n : ℕ) (s start : State) (l : List Call) : Type 0 where
-  none : silent n start l ≡ true → nexusAt s n .lock ≡ true → Seen n s start l
-  some : Latest n start l → Seen n s start l
+data Seen (n : ℕ) (s : State) (l : List Call) : Type 0 where
+  quiet : silent n (ranFrom s l) ≡ true → nexusAt s n .lock ≡ true → Seen n s l
+  sent : LatestPage n s l → Seen n s l
 
-look : (n : ℕ) (l : List Call) (i : ℕ) (s : State) (t : Trail) → Good n (forget t) s → Fits s (draws s l) → nexusAt (runFrom s l) n .lock ≡ true → Seen n s (struck s) l
-unfolding runFrom silent traceFrom
-look n [] i s t g fits e = none refl e
-look n (c ∷ l) i s t g fits e =
-    onward (rw (strike-commutes s c (low n i s t g c l fits)) at (look n l (suc i) (after s c) (followed n i s c t) (stepped n i s t g c l fits .good) (rest n i s t g c l fits) e))
+look : (n : ℕ) (l : List Call) (s : State) → nexusAt (runFrom s l) n .lock ≡ true → Seen n s l
+unfolding runFrom ranFrom silent
+look n [] s e = quiet refl e
+look n (c ∷ l) s e = onward (look n l (after s c) e)
   where
-    onward : Seen n (after s c) (struck (after (struck s) c)) l → Seen n s (struck s) (c ∷ l)
-    onward (some r) = some (record {
+    onward : Seen n (after s c) l → Seen n s (c ∷ l)
+    onward (sent r) = sent (record {
       before = c ∷ r .before;
       page = r .page;
       later = r .later;
       parts = ap {B = List Call} (c ∷_) (r .parts);
+      answered = r .answered;
       accepted = r .accepted;
       silence = r .silence;
     })
-    onward (none q k) =
-        cases (accepts n s c)
-        (λ a. some (record { before = []; page = c; later = l; parts = refl; accepted = accepts-struck n s c ∙ a; silence = q }))
-        (λ a. none (ap₂ (λ x y. not x && y) (accepts-struck n s c ∙ a) q) (stepped n i s t g c l fits .locked a k))
+    onward (quiet q k) =
+        cases (accepts n (effect s c))
+        (λ a.
+        let r = accepted-is n (effect s c) a in
+        sent (record { before = []; page = c; later = l; parts = refl; answered = taken-answered s c n (r .0) (r .1); accepted = a; silence = q }))
+        (λ a. quiet (ap₂ (λ x y. not x && y) a q) (lock-kept byNumber n s (effect s c) a k))
 
--- since power-on
-module _ (nexuses places : ℕ) (some-place : 0 < places) (n : ℕ) (here : n < nexuses) (calls : List Call) (fits : draws (powerOn nexuses places) calls < 2 ^ 32) where
-  abbrev unread : Trail
-  unread = record { left = 0; first = Nowhere }
+-- since power-on a locked nexus has one
+pub latest-page : (nexuses places n : ℕ) (calls : List Call) → nexusAt (run nexuses places calls) n .lock ≡ true → LatestPage n (powerOn nexuses places) calls
+latest-page nexuses places n calls locked = choose (look n calls (powerOn nexuses places) locked)
+  where
+    choose : Seen n (powerOn nexuses places) calls → LatestPage n (powerOn nexuses places) calls
+    choose (quiet q k) = clash k (power-unlocked nexuses places n)
+    choose (sent r) = r
 
-  power : Good n (forget unread) (powerOn nexuses places)
-  power = power-good (forget unread) nexuses places n some-place here some-place
+-- ---- the calls since
 
-  enough : Fits (powerOn nexuses places) (draws (powerOn nexuses places) calls)
-  unfolding powerOn
-  enough = omega arith
+-- while the nexus sends no page, what holds stays, and the calls that act on its place are noted
+later-good : (n : ℕ) (l : List Call) (k : ℕ) (s : State) (m : Mark) → Steady k s l → silent n (ranFrom s l) ≡ true → Good n m s
+    → Good n (record { left = m .left; touched = m .touched || touched (m .left) (ranFrom s l) }) (runFrom s l)
+unfolding runFrom ranFrom silent touched
+later-good n [] k s m f h g = rw or-false g
+later-good n (c ∷ l) k s m f h g =
+    let other : accepts n (effect s c) ≡ false = not-true _ (and-left _ (silent n (ranFrom (after s c) l)) h) in
+    rw (← or-assoc) (later-good n l (drewOf k (actions s c) (effect s c)) (after s c) _ (rest k s c l f) (and-right (not (accepts n (effect s c))) _ h) (other-good byNumber n m s (effect s c) other (one k s c l f) g))
 
-  -- the invariant
-  pub power-run : Good n (forget (trailFrom n 0 (start nexuses places) calls unread)) (run nexuses places calls)
-  power-run = run-good n calls 0 (powerOn nexuses places) unread power enough
+-- a page of its own, and the calls since
+page-good : (n : ℕ) (page : Call) (later : List Call) (k : ℕ) (s : State) → Base n s → Steady k s (page ∷ later) → accepts n (effect s page) ≡ true → silent n (ranFrom (after s page) later) ≡ true
+    → Good n (record { left = selected (after s page) n; touched = touched (selected (after s page) n) (ranFrom (after s page) later) }) (runFrom (after s page) later)
+page-good n page later k s b f a h =
+    later-good n later (drewOf k (actions s page) (effect s page)) (after s page) (record { left = selected (after s page) n; touched = false }) (rest k s page later f) h
+    (own-good byNumber n s (effect s page) b a (one k s page later f))
 
-  -- so a history is read without numbers just as it ran
-  pub power-trace : traceFrom (start nexuses places) calls ≡ struck (run nexuses places calls)
-  power-trace = trace-run n calls 0 (powerOn nexuses places) unread power enough
+-- before it there may be others
+run-good : (n k : ℕ) (s : State) (calls : List Call) → Base n s → Steady k s calls → (x : LatestPage n s calls)
+    → Good n (record { left = selected (leftBy x) n; touched = touched (selected (leftBy x) n) (ranFrom (leftBy x) (x .later)) }) (runFrom s calls)
+unfolding runFrom
+run-good n k s calls b f x =
+    let all : Steady k s (x .before ++ x .page ∷ x .later) = rw (x .parts) at f in
+    let base : Base n (runFrom s (x .before)) = record {
+      here = rw (run-size (x .before) s .nexuses) (b .here);
+      some = rw (run-size (x .before) s .places) (b .some);
+      sound = run-sound (x .before) k s (steady-first (x .before) (x .page ∷ x .later) k s all) (b .sound);
+    } in
+    let whole : runFrom s calls ≡ runFrom (leftBy x) (x .later) = ap (runFrom s) (x .parts) ∙ run-append (x .before) (x .page ∷ x .later) s in
+    rw whole (page-good n (x .page) (x .later) (drewFrom k s (x .before)) (runFrom s (x .before)) base (steady-later (x .before) (x .page ∷ x .later) k s all) (x .accepted) (x .silence))
 
-  -- a locked nexus has a latest page
-  pub latest : nexusAt (run nexuses places calls) n .lock ≡ true → Latest n (start nexuses places) calls
-  latest locked = choose (look n calls 0 (powerOn nexuses places) unread power enough locked)
-    where
-      choose : Seen n (powerOn nexuses places) (start nexuses places) calls → Latest n (start nexuses places) calls
-      choose (none q k) = clash k (power-unlocked nexuses places n)
-      choose (some r) = r
+-- ---- the write
+
+-- checks 11 and 12 answer 11 exactly if check 11 finds a fault
+own-eleven : (a b : Bool) → eqb (numberOf (firstOf (due a KeyInstanceChanged ∷ due b ParametersNotUsable ∷ []))) 11 ≡ a
+own-eleven true b = refl
+own-eleven false true = refl
+own-eleven false false = refl
+
+-- so does a write of a locked nexus that passes checks 1 to 4
+heard-eleven : (s : State) (n : ℕ) (supported : Bool) → isHeard s n ≡ true → nexusAt s n .lock ≡ true → isStopped s n supported ≡ not (eqb (nexusAt s n .saved) (selectedSet s n .number))
+heard-eleven s n supported h l =
+    let differ : Bool = not (eqb (nexusAt s n .saved) (selectedSet s n .number)) in
+    ap (λ a. eqb (numberOf a) 11) (own-answer s n supported h)
+    ∙ own-eleven (nexusAt s n .lock && differ) (encrypts (selectedSet s n .fields .encryption) && not supported)
+    ∙ ap (λ b. b && differ) l
+
+-- since power-on, of calls whose draws never wrap: it is answered 11 exactly if a later call acted on the place that the page left
+pub stopped-since : (nexuses places : ℕ) → 0 < places → (calls : List Call) → Calm 0 (powerOn nexuses places) calls
+    → (n : ℕ) → n < nexuses → (supported : Bool) → isHeard (run nexuses places calls) n ≡ true → nexusAt (run nexuses places calls) n .lock ≡ true
+    → (x : LatestPage n (powerOn nexuses places) calls) → isStopped (run nexuses places calls) n supported ≡ touched (selected (leftBy x) n) (ranFrom (leftBy x) (x .later))
+stopped-since nexuses places some calls calm n here supported heard locked x =
+    let base : Base n (powerOn nexuses places) = record { here = rw (power-nexuses nexuses places) here; some = rw (power-places nexuses places) some; sound = power-sound nexuses places } in
+    let good = run-good n 0 (powerOn nexuses places) calls base (power-steady nexuses places calls calm) x in
+    heard-eleven (run nexuses places calls) n supported heard locked
+    ∙ agree _ (view n (run nexuses places calls)) (good .held locked)

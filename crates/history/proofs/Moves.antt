@@ -1,4 +1,4 @@
--- Two records that maps make the same stay so under every call, where the maps keep what the rules read and no flag tells them apart.
+-- Two records that maps make the same stay so under every effect, where the maps keep what the rules read and nobody is told otherwise.
 -- Assumes nothing.
 use Prim.Native.Nat.{ℕ}
 use mathlib.Core.Bool.{Bool, true, false, not, _&&_}
@@ -8,32 +8,30 @@ use lib.Dec.{eqb}
 use lib.ListN.{length, set, length-map}
 use Rattle.arrays.specs.Base.{pick}
 use Rattle.arrays.specs.Arrays.{mapFrom}
-use Rattle.arrays.proofs.Base.{cases, pick-map}
+use Rattle.arrays.proofs.Base.{pick-map}
 use Rattle.arrays.proofs.Laws.{map-set, map-mapFrom, map-over, read-same}
-use Rattle.answer.specs.Answers.{isDone}
-use Rattle.answer.specs.declared.Answer.{Answer}
+use Rattle.answer.specs.declared.Change.{Change}
+use Rattle.answer.specs.declared.Change.the-variants.{Registered}
 use Rattle.page.specs.declared.Page.{Page}
-use Rattle.page.specs.declared.Checked.{Checked}
 use Rattle.device.specs.Record.{State, setAt, nexusAt, noSet, newNexus, publicScope, noMarks}
-use Rattle.device.specs.Updates.{registered, withMarks, withScope, numbered, withSupplemental, atNexus}
+use Rattle.device.specs.Updates.{registered, withMarks, withScope, numbered, withSupplemental, atNexus, mapped}
 use Rattle.device.specs.Selecting.{selected, selectedSet}
 use Rattle.device.specs.WellFormed.{wellFormed}
 use Rattle.device.specs.declared.Set.{Set}
 use Rattle.device.specs.declared.Marks.{Marks}
 use Rattle.device.specs.declared.Nexus.{Nexus}
-use Rattle.marks.specs.Reset.{unmarked}
+use Rattle.marks.specs.Marks.{remarked, changed, changes, told, alerted, isActor, flagged}
+use Rattle.marks.specs.Reset.{unmarked, cleared}
+use Rattle.marks.specs.declared.Actor.{Actor}
+use Rattle.marks.specs.declared.Actor.the-variants.{Acting}
 use Rattle.places.specs.Actions.{Action, drawn, freed, act, acts, releases, releasedBy, pageActions, settledNexus, settled, appended, supplemented, taken}
-use Rattle.drive.specs.Calls.{Call, powerUp, securityIn, securityOut, write, unitReset, happens}
-use Rattle.drive.specs.Answers.{firstOf, heard, pageChecked, answer}
-use Rattle.drive.specs.After.{marksAfter, remarked, refused, registers, differs, told, alerted, isActor, flagged, accepted, actorOf, happened, cleared, after}
-use Rattle.drive.specs.declared.Actor.{Actor}
-use Rattle.drive.specs.declared.Actor.the-variants.{Acting}
-use Rattle.history.specs.History.{mapped}
-use Rattle.history.proofs.Writes.{refused-write}
-use Rattle.history.proofs.Keeps.{Keeps, carried}
-use Rattle.history.proofs.Keeps as keeps
+use Rattle.drive.specs.Calls.{Call}
+use Rattle.drive.specs.Effects.{Effect, nothing, marks, takes, clears, releasing, restarts, effect}
+use Rattle.drive.specs.After.{actionsOf, changedBy, actorOf, Telling, carriedOut}
+use Rattle.drive.proofs.Keeps.{Keeps}
+use Rattle.drive.proofs.Keeps as keeps
 
--- what three maps, of the counter, of a set and of a nexus, do with each change that a call makes
+-- what three maps, of the counter, of a set and of a nexus, do with each change that an effect makes
 pub record Moves (c : ℕ → ℕ) (f : Set → Set) (g : Nexus → Nexus) : Type 0 where
   pub counter : (i j : ℕ) → c i ≡ c j → c (drawn i) ≡ c (drawn j)
   pub number : (i j : ℕ) (x : Set) → c i ≡ c j → f (numbered (drawn i) x) ≡ f (numbered (drawn j) x)
@@ -41,15 +39,6 @@ pub record Moves (c : ℕ → ℕ) (f : Set → Set) (g : Nexus → Nexus) : Typ
   pub scopes : (scope : ℕ) (x : Nexus) → g (withScope scope x) ≡ withScope scope (g x)
   pub remarks : (marks : Marks) (x : Nexus) → g (withMarks marks x) ≡ withMarks marks (g x)
   pub settles : (page : Page) (a b : Set) (x y : Nexus) → f a ≡ f b → g x ≡ g y → g (settledNexus page (a .number) x) ≡ g (settledNexus page (b .number) y)
-
--- the record as a call that is carried out leaves it, before the flags
-abbrev pub changed : State → Call → State
-changed s powerUp = s
-changed s (securityIn n protocol code) = s
-changed s (securityOut n protocol code page) = registers (taken s n (pageChecked s n page .page)) n
-changed s (write n supported) = s
-changed s unitReset = s
-changed s (happens event) = acts s (releases (releasedBy event) (s .sets))
 
 module _ (c : ℕ → ℕ) (f : Set → Set) (g : Nexus → Nexus) (k : Keeps f g) (m : Moves c f g) where
   -- the maps make them the same
@@ -59,7 +48,7 @@ module _ (c : ℕ → ℕ) (f : Set → Set) (g : Nexus → Nexus) (k : Keeps f 
     pub nexuses : map g (s .nexuses) ≡ map g (t .nexuses)
 
   -- that is, what they make of both is one record
-  pub alike-same : (s t : State) → Alike s t → mapped c f g s ≡ mapped c f g t
+  alike-same : (s t : State) → Alike s t → mapped c f g s ≡ mapped c f g t
   alike-same s t a = λ i. record { counter = a .counter i; sets = a .sets i; nexuses = a .nexuses i }
 
   -- the maps keep being well formed
@@ -67,7 +56,7 @@ module _ (c : ℕ → ℕ) (f : Set → Set) (g : Nexus → Nexus) (k : Keeps f 
   Formed s = wellFormed (mapped c f g s) ≡ wellFormed s
 
   -- what the maps keep is the same of both
-  pub through : {X : Type 0} (F : State → X) (s t : State) → F (mapped c f g s) ≡ F s → F (mapped c f g t) ≡ F t → Alike s t → F s ≡ F t
+  through : {X : Type 0} (F : State → X) (s t : State) → F (mapped c f g s) ≡ F s → F (mapped c f g t) ≡ F t → Alike s t → F s ≡ F t
   through F s t e h a = sym e ∙ ap F (alike-same s t a) ∙ h
 
   -- the place that a nexus uses
@@ -109,15 +98,10 @@ module _ (c : ℕ → ℕ) (f : Set → Set) (g : Nexus → Nexus) (k : Keeps f 
       (λ e. m .remarks _ _ ∙ ap₂ (λ (r : Marks) (x : Nexus). withMarks (h r) x) (same-marks (nexusAt s n) (nexusAt t n) e) e ∙ sym (m .remarks _ _))
       a
 
-  -- a refusal
-  refused-alike : (n : ℕ) (answer : Answer) (s t : State) → Alike s t → Alike (refused s n answer) (refused t n answer)
-  unfolding refused
-  refused-alike n answer s t a = remark-alike n (marksAfter answer) s t a
-
-  -- a nexus registered
-  registers-alike : (n : ℕ) (s t : State) → Alike s t → Alike (registers s n) (registers t n)
-  unfolding registers
-  registers-alike n s t a = remark-alike n registered s t a
+  -- by a change
+  changes-alike : (n : ℕ) (change : Change) (s t : State) → Alike s t → Alike (changes s n change) (changes t n change)
+  unfolding changes
+  changes-alike n change s t a = remark-alike n (changed change) s t a
 
   -- all nexuses made anew
   each-alike : (u v : ℕ → Nexus → Nexus) → ((i : ℕ) (x : Nexus) → g (u i x) ≡ v i (g x)) → ((i : ℕ) (x : Nexus) → g (v i x) ≡ v i (g x)) → (l r : List Nexus) → map g l ≡ map g r → map g (mapFrom u 0 l) ≡ map g (mapFrom v 0 r)
@@ -187,23 +171,23 @@ module _ (c : ℕ → ℕ) (f : Set → Set) (g : Nexus → Nexus) (k : Keeps f 
       pick-alike (page .supplemental) _ _ _ _ (supplemented-alike n page s t a) (settled-alike n page _ _ done)
 
   -- the flags, where they tell the same
-  flagged-alike : (actor : Actor) (s u t v : State) → ((n : ℕ) → differs s u n ≡ differs t v n) → Alike s t → Alike u v → Alike (flagged actor s u) (flagged actor t v)
+  flagged-alike : (p q : ℕ → Bool) (actor : Actor) (s u t v : State) → ((n : ℕ) → p n ≡ q n) → Alike s t → Alike u v → Alike (flagged p actor s u) (flagged q actor t v)
   unfolding flagged
-  flagged-alike actor s u t v d a b = record {
+  flagged-alike p q actor s u t v d a b = record {
     counter = b .counter;
     sets = b .sets;
     nexuses =
-        each-alike (λ i. remarked (alerted actor (told s u actor i))) (λ i. remarked (alerted actor (told t v actor i)))
-        (λ i x. remark s u i x ∙ ap (λ w. remarked (alerted actor w) (g x)) (tells i))
-        (λ i x. remark t v i x)
+        each-alike (λ i. remarked (alerted actor (told p s actor i))) (λ i. remarked (alerted actor (told q t actor i)))
+        (λ i x. remark p s i x ∙ ap (λ w. remarked (alerted actor w) (g x)) (tells i))
+        (λ i x. remark q t i x)
         (u .nexuses) (v .nexuses) (b .nexuses);
   }
     where
-      tells : (i : ℕ) → told s u actor i ≡ told t v actor i
+      tells : (i : ℕ) → told p s actor i ≡ told q t actor i
       tells i = ap₂ (λ (r : Marks) w. r .registered && not (isActor actor i) && w) (same-marks (nexusAt s i) (nexusAt t i) (same-nexus i s t a)) (d i)
 
-      remark : (s u : State) (i : ℕ) (x : Nexus) → g (remarked (alerted actor (told s u actor i)) x) ≡ remarked (alerted actor (told s u actor i)) (g x)
-      remark s u i x = m .remarks _ x ∙ ap (λ r. withMarks (alerted actor (told s u actor i) r) (g x)) (sym (k .marks x))
+      remark : (p : ℕ → Bool) (s : State) (i : ℕ) (x : Nexus) → g (remarked (alerted actor (told p s actor i)) x) ≡ remarked (alerted actor (told p s actor i)) (g x)
+      remark p s i x = m .remarks _ x ∙ ap (λ r. withMarks (alerted actor (told p s actor i) r) (g x)) (sym (k .marks x))
 
   -- a reset
   cleared-alike : (s t : State) → Alike s t → Alike (cleared s) (cleared t)
@@ -217,56 +201,48 @@ module _ (c : ℕ → ℕ) (f : Set → Set) (g : Nexus → Nexus) (k : Keeps f 
       over : (x : State) → map g (map unmarked (x .nexuses)) ≡ map unmarked (map g (x .nexuses))
       over x = map-over g unmarked unmarked (λ y. m .remarks noMarks y) (x .nexuses)
 
-  -- a call that is carried out, before the flags
-  pub changed-alike : (call : Call) (s t : State) → Alike s t → Alike (changed s call) (changed t call)
-  changed-alike powerUp s t a = a
-  changed-alike (securityIn n protocol code) s t a = a
-  changed-alike (securityOut n protocol code page) s t a =
-      let e : pageChecked s n page ≡ pageChecked t n page = through (λ x. pageChecked x n page) s t (keeps.page-kept f g k c s n page) (keeps.page-kept f g k c t n page) a in
-      subst (λ (p : Checked). Alike (changed s (securityOut n protocol code page)) (registers (taken t n (p .page)) n)) e
-      (registers-alike n _ _ (taken-alike n (pageChecked s n page .page) s t a))
-  changed-alike (write n supported) s t a = a
-  changed-alike unitReset s t a = a
-  changed-alike (happens event) s t a =
-      let e : releases (releasedBy event) (s .sets) ≡ releases (releasedBy event) (t .sets) = through (λ x. carried x (happens event)) s t (keeps.carried-kept f g k c s (happens event)) (keeps.carried-kept f g k c t (happens event)) a in
-      subst (λ l. Alike (changed s (happens event)) (acts t l)) e (acts-alike (releases (releasedBy event) (s .sets)) s t a)
+  -- what an effect does to the places
+  pub same-actions : (e : Effect) (s t : State) → Alike s t → actionsOf s e ≡ actionsOf t e
+  same-actions e s t = through (λ x. actionsOf x e) s t (keeps.actions-kept f g k c s e) (keeps.actions-kept f g k c t e)
 
-  -- the flags that it sets, where they tell the same
-  flags-alike : (call : Call) (actor : Actor) (s t : State) → ((i : ℕ) → differs s (changed s call) i ≡ differs t (changed t call) i) → Alike s t → Alike (flagged actor s (changed s call)) (flagged actor t (changed t call))
-  flags-alike call actor s t d a = flagged-alike actor s (changed s call) t (changed t call) d a (changed-alike call s t a)
-
-  -- a call that is refused or carried out by an answer that both give
-  by-answer : (x y : Answer) (s u t v : State) (n : ℕ) → x ≡ y → Alike s t → (isDone x ≡ true → Alike u v) → Alike (pick (isDone x) u (refused s n x)) (pick (isDone y) v (refused t n y))
-  by-answer x y s u t v n e a d =
-      subst (λ z. Alike (pick (isDone x) u (refused s n x)) (pick (isDone z) v (refused t n z))) e
-      (cases (isDone x)
-      (λ b. rw b (d b))
-      (λ b. rw b (refused-alike n x s t a)))
-
-  -- one that a refusal leaves as it was
-  by-done : (x y : Answer) (s u t v : State) → x ≡ y → Alike s t → (isDone x ≡ true → Alike u v) → Alike (pick (isDone x) u s) (pick (isDone y) v t)
-  by-done x y s u t v e a d =
-      subst (λ z. Alike (pick (isDone x) u s) (pick (isDone z) v t)) e
-      (cases (isDone x)
-      (λ b. rw b (d b))
-      (λ b. rw b a))
-
-  -- every call
-  pub after-alike : (call : Call) (s t : State) → Formed s → Formed t → (isDone (answer s call) ≡ true → (n : ℕ) → differs s (changed s call) n ≡ differs t (changed t call) n) → Alike s t → Alike (after s call) (after t call)
-  unfolding after accepted happened
-  after-alike powerUp s t ws wt d a =
+  -- an effect before anyone is told
+  changed-alike : (e : Effect) (s t : State) → Alike s t → Alike (changedBy s e) (changedBy t e)
+  unfolding changedBy actionsOf
+  changed-alike nothing s t a = a
+  changed-alike (marks n change) s t a = changes-alike n change s t a
+  changed-alike (takes n page) s t a = changes-alike n Registered _ _ (taken-alike n page s t a)
+  changed-alike clears s t a = cleared-alike s t a
+  changed-alike (releasing event) s t a =
+      subst (λ l. Alike (acts s (releases (releasedBy event) (s .sets))) (acts t l)) (same-actions (releasing event) s t a)
+      (acts-alike (releases (releasedBy event) (s .sets)) s t a)
+  changed-alike restarts s t a =
       let n : length (s .nexuses) ≡ length (t .nexuses) = through (λ x. length (x .nexuses)) s t (length-map (s .nexuses) g) (length-map (t .nexuses) g) a in
       let p : length (s .sets) ≡ length (t .sets) = through (λ x. length (x .sets)) s t (length-map (s .sets) f) (length-map (t .sets) f) a in
       rw (n, p) (record { counter = refl; sets = refl; nexuses = refl })
-  after-alike (securityIn n protocol code) s t ws wt d a =
-      by-answer _ _ s _ t _ n (through (λ x. answer x (securityIn n protocol code)) s t (keeps.in-kept f g k c s ws n protocol code) (keeps.in-kept f g k c t wt n protocol code) a) a (λ b. registers-alike n s t a)
-  after-alike (securityOut n protocol code page) s t ws wt d a =
-      by-answer _ _ s _ t _ n (through (λ x. answer x (securityOut n protocol code page)) s t (keeps.out-kept f g k c s ws n protocol code page) (keeps.out-kept f g k c t wt n protocol code page) a) a
-      (λ b. flags-alike (securityOut n protocol code page) (Acting n) s t (d b) a)
-  after-alike (write n supported) s t ws wt d a =
-      rw (refused-write s n supported, refused-write t n supported)
-      (subst (λ z. Alike (refused s n (firstOf (heard s n))) (refused t n (firstOf z))) (through (λ x. heard x n) s t (keeps.heard-kept f g k c s ws n) (keeps.heard-kept f g k c t wt n) a) (refused-alike n (firstOf (heard s n)) s t a))
-  after-alike unitReset s t ws wt d a =
-      by-done _ _ s _ t _ (through (λ x. answer x unitReset) s t (keeps.reset-kept f g k c s ws) (keeps.reset-kept f g k c t wt) a) a (λ b. cleared-alike s t a)
-  after-alike (happens event) s t ws wt d a =
-      by-done _ _ s _ t _ (through (λ x. answer x (happens event)) s t (keeps.event-kept f g k c s ws event) (keeps.event-kept f g k c t wt event) a) a (λ b. flags-alike (happens event) (actorOf event) s t (d b) a)
+
+  -- a rule that tells the same of records that the maps make the same
+  abbrev Fair : Telling → Type 0
+  Fair rule = (l : List Action) (s t u v : State) (n : ℕ) → Alike s t → Alike u v → rule l s u n ≡ rule l t v n
+
+  module _ (rule : Telling) (fair : Fair rule) where
+    -- an effect that tells nexuses
+    telling-alike : (e : Effect) (actor : Actor) (s t : State) → Alike s t
+        → Alike (flagged (rule (actionsOf s e) s (changedBy s e)) actor s (changedBy s e)) (flagged (rule (actionsOf t e) t (changedBy t e)) actor t (changedBy t e))
+    telling-alike e actor s t a =
+        let b = changed-alike e s t a in
+        flagged-alike _ _ actor s (changedBy s e) t (changedBy t e)
+        (λ n. ap (λ l. rule l s (changedBy s e) n) (same-actions e s t a) ∙ fair (actionsOf t e) s t (changedBy s e) (changedBy t e) n a b) a b
+
+    -- every effect
+    pub effect-alike : (e : Effect) (s t : State) → Alike s t → Alike (carriedOut rule s e) (carriedOut rule t e)
+    unfolding carriedOut
+    effect-alike nothing s t a = changed-alike nothing s t a
+    effect-alike (marks n change) s t a = changed-alike (marks n change) s t a
+    effect-alike (takes n page) s t a = telling-alike (takes n page) (Acting n) s t a
+    effect-alike clears s t a = changed-alike clears s t a
+    effect-alike (releasing event) s t a = telling-alike (releasing event) (actorOf event) s t a
+    effect-alike restarts s t a = changed-alike restarts s t a
+
+  -- and every call has the same
+  pub same-effect : (call : Call) (s t : State) → Formed s → Formed t → Alike s t → effect s call ≡ effect t call
+  same-effect call s t ws wt = through (λ x. effect x call) s t (keeps.effect-kept f g k c s ws call) (keeps.effect-kept f g k c t wt call)

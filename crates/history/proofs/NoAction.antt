@@ -1,4 +1,4 @@
--- Calls that are no action on a place.
+-- Effects that are no action on a place.
 -- Assumes nothing.
 use Prim.Native.Nat.{ℕ, suc, _+_}
 use mathlib.Core.Bool.{Bool, true, false, not, _&&_, _||_}
@@ -8,12 +8,11 @@ use native.Mathlib.Nat.{zero-add}
 use native.Mathlib.Omega.{arith}
 use lib.Dec.{eqb}
 use lib.ListN.{getD}
-use borrow.Author.Tests.{eqb-true, eq-eqb, ne-eqb}
+use borrow.Author.Tests.{eqb-true, ne-eqb}
 use Rattle.arrays.specs.Base.{pick}
 use Rattle.arrays.specs.Arrays.{foldFrom, find}
-use Rattle.arrays.proofs.Base.{cases, clash, and-left, both, pick-elim, pick-same, pick-true, pick-false, or-left-false}
+use Rattle.arrays.proofs.Base.{cases, clash, and-left, pick-elim, pick-true, pick-false, or-left-false}
 use Rattle.arrays.proofs.Laws.{find-by}
-use Rattle.answer.specs.Answers.{isDone}
 use Rattle.page.specs.declared.Fields.{Fields}
 use Rattle.page.specs.declared.Page.{Page}
 use Rattle.device.specs.Record.{State, setAt, nexusAt, noSet, empty, used, localScope, allScope}
@@ -23,18 +22,15 @@ use Rattle.device.specs.declared.Found.{Found}
 use Rattle.device.specs.declared.Found.the-variants.{At, Nowhere}
 use Rattle.places.specs.Actions.{release, establish, releases, ownPlace, releaseFound, releaseOwn, emptyLocal, unlockedLocal, freeAt, takenAt, room, establishIn, pageActions, releasedBy}
 use Rattle.places.specs.declared.Event.{Event}
-use Rattle.drive.specs.Calls.{Call, powerUp, securityIn, securityOut, write, unitReset, happens}
-use Rattle.drive.specs.Answers.{pageChecked, answer}
-use Rattle.drive.specs.After.{actions}
-use Rattle.history.specs.History.{accepts, hits, Establishes}
-use Rattle.history.proofs.Pages.{supplemental-actions}
+use Rattle.drive.specs.Effects.{Effect, nothing, marks, takes, clears, releasing, restarts}
+use Rattle.drive.specs.After.{actionsOf}
+use Rattle.history.specs.History.{hits, Establishes}
+use Rattle.history.proofs.Left.{supplemental-actions}
 
 -- a supplemental key is no action
-pub supplemental-no-action : (s : State) (n protocol code : ℕ) (page : List ℕ) → pageChecked s n page .page .supplemental ≡ true → actions s (securityOut n protocol code page) ≡ []
-unfolding actions
-supplemental-no-action s n protocol code page e =
-    ap (λ l. pick (isDone (answer s (securityOut n protocol code page))) l []) (supplemental-actions s n (pageChecked s n page .page) e)
-    ∙ pick-same (isDone (answer s (securityOut n protocol code page))) []
+pub supplemental-no-action : (s : State) (n : ℕ) (page : Page) → page .supplemental ≡ true → actionsOf s (takes n page) ≡ []
+unfolding actionsOf
+supplemental-no-action = supplemental-actions
 
 module _ (picked : ℕ → Set → Bool) (place : ℕ) where
   -- from any place on
@@ -53,12 +49,9 @@ module _ (picked : ℕ → Set → Bool) (place : ℕ) where
   empty-missed l e = missed-from l 0 (λ i h. ap (λ j. empty (getD l j noSet)) (sym (h ∙ zero-add i)) ∙ e)
 
 -- an event is no action on an empty place
-pub empty-release-no-action : (s : State) (event : Event) (place : ℕ) → empty (setAt s place) ≡ true → hits place (actions s (happens event)) ≡ false
-unfolding actions hits
-empty-release-no-action s event place e =
-    pick-elim (λ l. hits place l ≡ false) (isDone (answer s (happens event)))
-    (λ t. empty-missed (releasedBy event) place (s .sets) e)
-    (λ t. refl)
+pub empty-release-no-action : (s : State) (event : Event) (place : ℕ) → empty (setAt s place) ≡ true → hits place (actionsOf s (releasing event)) ≡ false
+unfolding actionsOf
+empty-release-no-action s event place e = empty-missed (releasedBy event) place (s .sets) e
 
 -- ---- place 0 while it is empty
 
@@ -116,21 +109,13 @@ page-establishes s n page e h =
     (λ a. clash h (ap (hits 0) (pick-false _ _ _ t ∙ pick-false _ _ _ l ∙ pick-false _ _ _ a) ∙ own-later s n e))))
 
 -- place 0 while it is empty is acted on only by being established
-pub default-only-replaced : (s : State) (call : Call) → empty (setAt s 0) ≡ true → hits 0 (actions s call) ≡ true → Establishes s call
-unfolding actions hits accepts
-default-only-replaced s powerUp e h = clash h refl
-default-only-replaced s (securityIn n protocol code) e h = clash h refl
-default-only-replaced s (securityOut n protocol code page) e h =
-    cases (isDone (answer s (securityOut n protocol code page)))
-    (λ t.
-    let r = page-establishes s n (pageChecked s n page .page) e (sym (ap (hits 0) (pick-true _ _ _ t)) ∙ h) in
-    record {
-      sender = n;
-      fields = pageChecked s n page .page .fields;
-      accepted = both _ _ (both _ _ (eq-eqb n n refl) (ap not (r .0))) t;
-      acts = pick-true _ _ _ t ∙ r .1;
-    })
-    (λ t. clash h (ap (hits 0) (pick-false _ _ _ t)))
-default-only-replaced s (write n supported) e h = clash h refl
-default-only-replaced s unitReset e h = clash h refl
-default-only-replaced s (happens event) e h = clash h (empty-release-no-action s event 0 e)
+pub default-only-replaced : (s : State) (e : Effect) → empty (setAt s 0) ≡ true → hits 0 (actionsOf s e) ≡ true → Establishes s e
+unfolding actionsOf hits
+default-only-replaced s nothing z h = clash h refl
+default-only-replaced s (marks n change) z h = clash h refl
+default-only-replaced s (takes n page) z h =
+    let r = page-establishes s n page z h in
+    record { sender = n; page = page; taken = refl; fresh = r .0; acts = r .1 }
+default-only-replaced s clears z h = clash h refl
+default-only-replaced s (releasing event) z h = clash h (empty-release-no-action s event 0 z)
+default-only-replaced s restarts z h = clash h refl

@@ -1,5 +1,5 @@
--- Every sequence of calls since power-on, read without a look at any instance number.
-use Prim.Native.Nat.{ℕ, suc, _+_}
+-- Every sequence of calls since power-on: what each call did, read from the record and read without a look at any instance number.
+use Prim.Native.Nat.{ℕ, suc, _+_, _≤_, _<_, _^_}
 use mathlib.Core.Bool.{Bool, true, false, not, _&&_, _||_}
 use mathlib.Core.List.{List, [], _∷_, _++_, map}
 use mathlib.Core.Path.{_≡_}
@@ -7,112 +7,207 @@ use lib.Dec.{eqb}
 use lib.ListN.{length}
 use Rattle.arrays.specs.Base.{pick}
 use Rattle.answer.specs.Answers.{numberOf, isDone}
+use Rattle.answer.specs.declared.Answer.the-variants.{Done}
 use Rattle.page.specs.declared.Fields.{Fields}
-use Rattle.device.specs.Record.{State, powerOn, allScope}
-use Rattle.device.specs.Updates.{numbered}
+use Rattle.page.specs.declared.Page.{Page}
+use Rattle.device.specs.Record.{State, powerOn, setAt, allScope}
 use Rattle.device.specs.Selecting.{selected}
+use Rattle.device.specs.declared.Supplemental.{Supplemental}
 use Rattle.device.specs.declared.Set.{Set}
+use Rattle.device.specs.declared.Marks.{Marks}
 use Rattle.device.specs.declared.Nexus.{Nexus}
 use Rattle.device.specs.declared.Found.{Found}
 use Rattle.device.specs.declared.Found.the-variants.{At, Nowhere}
 use Rattle.places.specs.Actions.{Action, releaseOwn, establish}
-use Rattle.drive.specs.Calls.{Call, powerUp, securityIn, securityOut, write, unitReset, happens}
-use Rattle.drive.specs.Answers.{firstOf, heard, pageChecked, answer}
-use Rattle.drive.specs.After.{actions, after}
+use Rattle.drive.specs.Calls.{Call, write}
+use Rattle.drive.specs.Answers.{firstOf, check1, heardOf, answer}
+use Rattle.drive.specs.Effects.{Effect, nothing, marks, takes, clears, releasing, restarts, effect}
+use Rattle.drive.specs.After.{Telling, carriedOut, actionsOf, actions, after}
+use Rattle.drive.specs.Runs.{runFrom}
+
+-- ---- what a call did
+
+-- one of the actions is on the place: the call established, replaced or released what it holds
+unfoldable pub hits : ℕ → List Action → Bool
+hits place [] = false
+hits place (a ∷ more) = eqb place (a .place) || hits place more
+
+-- a page of nexus n was taken that isn't supplemental
+abbrev pub accepts : ℕ → Effect → Bool
+accepts n nothing = false
+accepts n (marks m change) = false
+accepts n (takes m page) = eqb m n && not (page .supplemental)
+accepts n clears = false
+accepts n (releasing event) = false
+accepts n restarts = false
+
+-- the effect, what it did to the places, and the place whose set each nexus uses afterwards
+pub record Did : Type 0 where
+  pub effect : Effect
+  pub actions : List Action
+  pub uses : ℕ → ℕ
+
+-- what a call does to record s, where t is the record after it
+abbrev pub did : State → Call → State → Did
+did s call t = record { effect = effect s call; actions = actions s call; uses = selected t }
 
 -- ---- the history as it ran
 
+unfoldable pub ranFrom : State → List Call → List Did
+ranFrom s [] = []
+ranFrom s (call ∷ later) = did s call (after s call) ∷ ranFrom (after s call) later
+
+-- ---- the history read without numbers: a record that has none
+
+pub record BareSet : Type 0 where
+  pub owner : ℕ
+  pub scope : ℕ
+  pub fields : Fields
+  pub supplemental : Supplemental
+
+pub record BareNexus : Type 0 where
+  pub scope : ℕ
+  pub lock : Bool
+  pub marks : Marks
+
+pub record Bare : Type 0 where
+  pub sets : List BareSet
+  pub nexuses : List BareNexus
+
+abbrev pub bareSet : Set → BareSet
+bareSet x = record { owner = x .owner; scope = x .scope; fields = x .fields; supplemental = x .supplemental }
+
+abbrev pub bareNexus : Nexus → BareNexus
+bareNexus x = record { scope = x .scope; lock = x .lock; marks = x .marks }
+
+-- the record with every instance number left out
+unfoldable pub bare : State → Bare
+bare s = record { sets = map bareSet (s .sets); nexuses = map bareNexus (s .nexuses) }
+
+-- a record that holds this and 0 for every number: what the rules are asked of, since none of those used here looks at a number
+-- (`same-but-numbers` says so: records that agree but for their numbers give the same)
+abbrev pub fullSet : BareSet → Set
+fullSet x = record { owner = x .owner; scope = x .scope; number = 0; fields = x .fields; supplemental = x .supplemental }
+
+abbrev pub fullNexus : BareNexus → Nexus
+fullNexus x = record { scope = x .scope; lock = x .lock; saved = 0; lastLocal = 0; marks = x .marks }
+
+unfoldable pub full : Bare → State
+full b = record { counter = 0; sets = map fullSet (b .sets); nexuses = map fullNexus (b .nexuses) }
+
+-- a nexus is told where "the selected place differs, or a call acted on it": no number is compared
+abbrev pub byAction : Telling
+byAction actions s t n = not (eqb (selected s n) (selected t n)) || hits (selected s n) actions
+
+-- one call read
+unfoldable pub reads : Bare → Call → Bare
+reads b call = bare (carriedOut byAction (full b) (effect (full b) call))
+
+unfoldable pub readFrom : Bare → List Call → List Did
+readFrom b [] = []
+readFrom b (call ∷ later) = did (full b) call (full (reads b call)) ∷ readFrom (reads b call) later
+
+-- the record that calls leave, read so
+unfoldable pub readTo : Bare → List Call → Bare
+readTo b [] = b
+readTo b (call ∷ later) = readTo (reads b call) later
+
+-- from power-on
+abbrev pub reading : (nexuses places : ℕ) → List Call → List Did
+reading nexuses places calls = readFrom (bare (powerOn nexuses places)) calls
+
+-- ---- demand 3's words
+
 -- no refusal that comes before check 11 is due: checks 1 to 4 pass
 abbrev pub isHeard : State → ℕ → Bool
-isHeard s n = isDone (firstOf (heard s n))
+isHeard s n = isDone (firstOf (check1 s ∷ heardOf s n))
 
 -- the nexus's write is answered 11
 abbrev pub isStopped : State → ℕ → Bool → Bool
 isStopped s n supported = eqb (numberOf (answer s (write n supported))) 11
 
--- ---- the history without its numbers
+-- none of the calls took such a page
+unfoldable pub silent : ℕ → List Did → Bool
+silent n [] = true
+silent n (d ∷ later) = not (accepts n (d .effect)) && silent n later
 
--- the record with its counter, each set and each nexus made anew
-abbrev pub mapped : (ℕ → ℕ) → (Set → Set) → (Nexus → Nexus) → State → State
-mapped counter set nexus s = record { counter = counter (s .counter); sets = map set (s .sets); nexuses = map nexus (s .nexuses) }
+-- some call established, replaced or released what the place holds
+unfoldable pub touched : ℕ → List Did → Bool
+touched place [] = false
+touched place (d ∷ later) = hits place (d .actions) || touched place later
 
--- a nexus with its two saved numbers struck out
-abbrev pub bareNexus : Nexus → Nexus
-bareNexus x = record { scope = x .scope; lock = x .lock; saved = 0; lastLocal = 0; marks = x .marks }
+-- the nexus's latest page that was accepted and wasn't supplemental, among what the calls did
+pub record Latest (n : ℕ) (l : List Did) : Type 0 where
+  pub before : List Did
+  pub page : Did
+  pub later : List Did
+  pub parts : l ≡ before ++ page ∷ later
+  pub accepted : accepts n (page .effect) ≡ true
+  pub silence : silent n later ≡ true
 
--- the record with every instance number struck out
-unfoldable pub struck : State → State
-struck s = mapped (λ counter. 0) (numbered 0) bareNexus s
+-- the place whose set that page left the nexus using
+abbrev pub placeLeft : {n : ℕ} {l : List Did} → Latest n l → ℕ
+placeLeft {n = n} x = x .page .uses n
 
--- the record after calls, where every call sees a record without numbers
-unfoldable pub traceFrom : State → List Call → State
-traceFrom s [] = s
-traceFrom s (call ∷ later) = traceFrom (struck (after s call)) later
-
--- where every history starts: power-on, without numbers
-abbrev pub start : (nexuses places : ℕ) → State
-start nexuses places = struck (powerOn nexuses places)
-
--- ---- pages and actions
-
--- the call is a page of nexus n that isn't supplemental, and it is accepted
-unfoldable pub accepts : ℕ → State → Call → Bool
-accepts n s powerUp = false
-accepts n s (securityIn m protocol code) = false
-accepts n s (securityOut m protocol code page) =
-    eqb m n && not (pageChecked s m page .page .supplemental) && isDone (answer s (securityOut m protocol code page))
-accepts n s (write m supported) = false
-accepts n s unitReset = false
-accepts n s (happens event) = false
-
--- one of the actions is on the place
-unfoldable pub hits : ℕ → List Action → Bool
-hits place [] = false
-hits place (a ∷ more) = eqb place (a .place) || hits place more
-
--- none of the calls is such a page
-unfoldable pub silent : ℕ → State → List Call → Bool
-silent n s [] = true
-silent n s (call ∷ later) = not (accepts n s call) && silent n (struck (after s call)) later
-
--- some call establishes, replaces or releases what the place holds
-unfoldable pub acted : ℕ → State → List Call → Bool
-acted place s [] = false
-acted place s (call ∷ later) = hits place (actions s call) || acted place (struck (after s call)) later
-
--- the nexus's latest page that was accepted and wasn't supplemental, with the calls before and after it
-pub record Latest (n : ℕ) (s : State) (calls : List Call) : Type 0 where
+-- the same of the calls as they ran: the latest page whose answer in the run was 0 and that wasn't supplemental
+pub record LatestPage (n : ℕ) (s : State) (calls : List Call) : Type 0 where
   pub before : List Call
   pub page : Call
   pub later : List Call
   pub parts : calls ≡ before ++ page ∷ later
-  pub accepted : accepts n (traceFrom s before) page ≡ true
-  pub silence : silent n (traceFrom s (before ++ page ∷ [])) later ≡ true
+  pub answered : answer (runFrom s before) page ≡ Done
+  pub accepted : accepts n (effect (runFrom s before) page) ≡ true
+  pub silence : silent n (ranFrom (after (runFrom s before) page) later) ≡ true
 
--- the record that this page left, without numbers
-abbrev pub leftBy : {n : ℕ} {s : State} {calls : List Call} → Latest n s calls → State
-leftBy {s = s} x = traceFrom s (x .before ++ x .page ∷ [])
+-- the record that this page left
+abbrev pub leftBy : {n : ℕ} {s : State} {calls : List Call} → LatestPage n s calls → State
+leftBy {s = s} x = after (runFrom s (x .before)) (x .page)
 
--- the place whose set the page left the nexus using
-abbrev pub placeLeft : {n : ℕ} {s : State} {calls : List Call} → Latest n s calls → ℕ
-placeLeft {n = n} x = selected (leftBy x) n
+-- ---- the numbers
 
--- ---- the first such call
+abbrev pub numberAt : State → ℕ → ℕ
+numberAt s place = setAt s place .number
 
--- the position, counted on from i, of the first call that acts on the place
-unfoldable pub firstActed : (place i : ℕ) → State → List Call → Found
-firstActed place i s [] = Nowhere
-firstActed place i s (call ∷ later) = pick (hits place (actions s call)) (At i) (firstActed place (suc i) (struck (after s call)) later)
+-- there is a place, no number is above the counter, and that many more draws stay below the wrap
+pub record Low (s : State) (k : ℕ) : Type 0 where
+  pub some : 0 < length (s .sets)
+  pub low : (place : ℕ) → numberAt s place ≤ s .counter
+  pub fits : s .counter + k < 2 ^ 32
 
--- what it is to be that call: it acts on the place, and none before it does
-pub record First (place : ℕ) (s : State) (calls : List Call) (position : ℕ) : Type 0 where
-  pub before : List Call
-  pub call : Call
-  pub later : List Call
-  pub parts : calls ≡ before ++ call ∷ later
+-- how many are drawn since the latest power-on, where k were before the effect that has these actions: each action draws one
+abbrev pub drewOf : ℕ → List Action → Effect → ℕ
+drewOf k l nothing = k + length l
+drewOf k l (marks n change) = k + length l
+drewOf k l (takes n page) = k + length l
+drewOf k l clears = k + length l
+drewOf k l (releasing event) = k + length l
+drewOf k l restarts = 0
+
+-- one call after another
+unfoldable pub drewFrom : ℕ → State → List Call → ℕ
+drewFrom k s [] = k
+drewFrom k s (call ∷ later) = drewFrom (drewOf k (actions s call) (effect s call)) (after s call) later
+
+-- from power-on
+abbrev pub drew : (nexuses places : ℕ) → List Call → ℕ
+drew nexuses places calls = drewFrom 0 (powerOn nexuses places) calls
+
+-- ---- the first call that touched the set
+
+-- the position, counted on from i, of the first call that acted on the place
+unfoldable pub firstTouched : (place i : ℕ) → List Did → Found
+firstTouched place i [] = Nowhere
+firstTouched place i (d ∷ later) = pick (hits place (d .actions)) (At i) (firstTouched place (suc i) later)
+
+-- what it is to be that call: it acted on the place, and none before it did
+pub record First (place : ℕ) (l : List Did) (position : ℕ) : Type 0 where
+  pub before : List Did
+  pub call : Did
+  pub later : List Did
+  pub parts : l ≡ before ++ call ∷ later
   pub counted : length before ≡ position
-  pub untouched : acted place s before ≡ false
-  pub touches : hits place (actions (traceFrom s before) call) ≡ true
+  pub untouched : touched place before ≡ false
+  pub touches : hits place (call .actions) ≡ true
 
 -- one reading of the whole history: the place whose set the nexus's latest page left it using,
 -- and the position of the first later call that acted on it
@@ -131,25 +226,26 @@ isFound (At i) = true
 isFound Nowhere = false
 
 -- a call, at position i: such a page sets the reading anew, any other call is noted if it is the first to act on the place
-unfoldable pub followed : (n i : ℕ) → State → Call → Trail → Trail
-followed n i s call t =
-    pick (accepts n s call) (record { left = selected (after s call) n; first = Nowhere })
-    (record { left = t .left; first = earlier (t .first) (pick (hits (t .left) (actions s call)) (At i) Nowhere) })
+unfoldable pub followed : (n i : ℕ) → Did → Trail → Trail
+followed n i d t =
+    pick (accepts n (d .effect)) (record { left = d .uses n; first = Nowhere })
+    (record { left = t .left; first = earlier (t .first) (pick (hits (t .left) (d .actions)) (At i) Nowhere) })
 
--- one call after another
-unfoldable pub trailFrom : (n i : ℕ) → State → List Call → Trail → Trail
-trailFrom n i s [] t = t
-trailFrom n i s (call ∷ later) t = trailFrom n (suc i) (struck (after s call)) later (followed n i s call t)
+-- the same over a history
+unfoldable pub trailOver : (n i : ℕ) → List Did → Trail → Trail
+trailOver n i [] t = t
+trailOver n i (d ∷ later) t = trailOver n (suc i) later (followed n i d t)
 
 -- from power-on
 unfoldable pub trail : (nexuses places n : ℕ) → List Call → Trail
-trail nexuses places n calls = trailFrom n 0 (start nexuses places) calls (record { left = 0; first = Nowhere })
+trail nexuses places n calls = trailOver n 0 (reading nexuses places calls) (record { left = 0; first = Nowhere })
 
 -- ---- the default set
 
--- an accepted page of scope ALL that isn't supplemental: it establishes place 0, and of the others it releases its sender's own
-pub record Establishes (s : State) (call : Call) : Type 0 where
+-- a page that is taken, of scope ALL and not supplemental: it establishes place 0, and of the others it releases its sender's own
+pub record Establishes (s : State) (e : Effect) : Type 0 where
   pub sender : ℕ
-  pub fields : Fields
-  pub accepted : accepts sender s call ≡ true
-  pub acts : actions s call ≡ releaseOwn s sender ++ establish 0 sender allScope fields ∷ []
+  pub page : Page
+  pub taken : e ≡ takes sender page
+  pub fresh : page .supplemental ≡ false
+  pub acts : actionsOf s e ≡ releaseOwn s sender ++ establish 0 sender allScope (page .fields) ∷ []

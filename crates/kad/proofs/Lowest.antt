@@ -2,7 +2,7 @@
 -- Assumes nothing.
 use mathlib.Core.Path.{_≡_, refl, sym}
 use mathlib.Core.Logic.{_⊎_}
-use mathlib.Core.List.{List, [], _∷_, _++_}
+use mathlib.Core.List.{List, [], _∷_}
 use Prim.Native.Nat.{ℕ, zero, suc, _+_, _≤_}
 use native.Mathlib.Nat.{not-suc-le-zero, le-refl, zero-add, add-zero}
 use native.Mathlib.Omega.{arith}
@@ -10,10 +10,11 @@ use borrow.Author.Tests.{ltb-true, ltb-false}
 use lib.Dec.{ltb}
 use lib.ListN.{length, drop, length-drop}
 use Rattle.arrays.proofs.Base.{cases, pick-map}
-use Rattle.wire.specs.Rules.{Rule, rule, breach}
-use Rattle.wire.proofs.Rules.{Under, Sorted, BreaksAt, low, high, lowest, breaks, sorted-from, sorted-append}
+use Rattle.wire.specs.Rules.{Rule, rule, breach, BreaksAt}
+use Rattle.wire.proofs.Rules.{Under, Sorted, low, high, lowest, breaks, sorted-from, sorted-append}
 use Rattle.kad.specs.Kad.{noKads, withData}
-use Rattle.kad.specs.Reading.{headSize, typeOf, dataOf, nextOf, descriptorRules, listed, readKads}
+use Rattle.kad.specs.Reading.{headSize, dataOf, nextOf, descriptorRules, listed, readKads}
+use Rattle.kad.specs.Rules.{shifted, listRules, rulesOf}
 use Rattle.kad.specs.declared.Kads.{Kads}
 use Rattle.kad.specs.declared.Seen.{Seen}
 use Rattle.kad.specs.declared.Seen.the-variants.{Nothing, Last}
@@ -21,12 +22,7 @@ use Rattle.kad.proofs.Reading.{rules-under, room}
 
 -- ---- rules moved to where a descriptor stands
 
--- the same rules, each pointing i bytes further
-abbrev pub shifted : ℕ → List Rule → List Rule
-shifted i [] = []
-shifted i (r ∷ rs) = rule (i + r .at) (r .holds) ∷ shifted i rs
-
--- their breach lies i bytes further
+-- the breach of the same rules, each pointing i bytes further, lies i bytes further
 pub shifted-breach : (i : ℕ) (rs : List Rule) (top : ℕ) → breach (shifted i rs) (i + top) ≡ i + breach rs top
 shifted-breach i [] top = refl
 shifted-breach i (r ∷ rs) top = rw (shifted-breach i rs top) (sym (pick-map (λ (n : ℕ). i + n) (r .holds) (breach rs top) (r .at)))
@@ -42,14 +38,6 @@ shifted-sorted i m [] s = tt
 shifted-sorted i m (r ∷ rs) s = (omega arith, shifted-sorted i (r .at) rs (s .1))
 
 -- ---- the rules of a list
-
--- the rules of all descriptors of a list of at most n bytes that starts at byte i
-unfoldable pub listRules : ℕ → ℕ → List ℕ → Seen → List Rule
-listRules zero i s seen = []
-listRules (suc n) i [] seen = []
-listRules (suc n) i (b ∷ s) seen =
-    let next = nextOf (b ∷ s) in
-    shifted i (descriptorRules (b ∷ s) seen) ++ listRules n (i + next) (drop next (b ∷ s)) (Last (typeOf (b ∷ s)))
 
 -- those of one descriptor stand in the order of its bytes
 rules-sorted : (s : List ℕ) (seen : Seen) → Sorted 0 (descriptorRules s seen)
@@ -92,10 +80,6 @@ first-fault (suc n) i (b ∷ s) seen k h =
     let decides = high rules more (i + length l) (i + headSize) (i + fault) (shifted-under i headSize (descriptorRules l seen) (rules-under l seen)) moved (omega arith) in
     let others = first-fault n (i + next) rest (Last b) (withData k b (dataOf l)) (omega arith) in
     rw (t, decides, ← ends, ← others) (omega arith))
-
--- the rules of a whole list
-abbrev pub rulesOf : List ℕ → List Rule
-rulesOf l = listRules (length l) 0 l Nothing
 
 -- the same of a list read by itself
 pub list-fault : (l : List ℕ) → readKads l .good ≡ breach (rulesOf l) (length l)

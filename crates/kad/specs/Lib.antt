@@ -1,3 +1,4 @@
 pub mod Kad
 pub mod Reading
+pub mod Rules
 pub mod Writing

@@ -1,66 +1,55 @@
 -- Every call leaves a well-formed record well formed.
 -- Assumes nothing.
-use Prim.Native.Nat.{ℕ, _≤_, _<_}
+use Prim.Native.Nat.{ℕ, _<_}
 use mathlib.Core.Path.{_≡_, refl, sym, ap, _∙_}
 use mathlib.Core.Bool.{Bool, true, false, not, _&&_}
 use mathlib.Core.Logic.{_⊎_, ⊎-elim}
-use mathlib.Core.List.{List, [], _∷_, _++_}
+use mathlib.Core.List.{List}
 use native.Mathlib.Omega.{arith}
-use borrow.Author.Tests.{leb-false, eq-eqb, not-true}
-use lib.Dec.{leb, eqb}
+use borrow.Author.Tests.{eq-eqb}
+use lib.Dec.{eqb}
 use lib.ListN.{length}
-use Rattle.arrays.specs.Base.{pick}
-use Rattle.arrays.specs.Arrays.{mapFrom}
-use Rattle.arrays.proofs.Base.{cases, clash, pick-elim, and-right}
+use Rattle.arrays.proofs.Base.{clash}
 use Rattle.arrays.proofs.Loops.{mapFrom-map}
-use Rattle.answer.specs.Answers.{numberOf, isDone}
-use Rattle.answer.specs.declared.Answer.{Answer}
-use Rattle.answer.specs.declared.Answer.the-variants.{Done, NexusAbove, NoPlaceForLocal}
-use Rattle.answer.proofs.Numbers.{done-is}
+use Rattle.answer.specs.declared.Change.{Change}
+use Rattle.answer.specs.declared.Change.the-variants.{Registered}
 use Rattle.kad.proofs.Good.{good-lengths, good-tails}
 use Rattle.page.specs.declared.Page.{Page}
-use Rattle.page.specs.declared.Fields.{Fields}
-use Rattle.page.proofs.Accepted.{IsPublic, IsSupplemental, IsSet, accepted-page}
-use Rattle.device.specs.Record.{State, nexusAt, localScope, powerOn}
+use Rattle.page.proofs.Accepted.{IsSet, accepted-page}
+use Rattle.device.specs.Record.{State, nexusAt, localScope}
 use Rattle.device.specs.Selecting.{selectedSet}
 use Rattle.device.specs.WellFormed.{wellFormed}
-use Rattle.device.specs.Updates.{registered, withNexuses}
-use Rattle.device.specs.declared.Marks.{Marks}
+use Rattle.device.specs.Updates.{withNexuses}
 use Rattle.device.specs.declared.Nexus.{Nexus}
 use Rattle.device.proofs.WellFormed.{ranges-good, power-on-well}
-use Rattle.marks.specs.Reset.{unmarked}
-use Rattle.places.specs.Actions.{acts, releases, releasedBy, room, taken}
-use Rattle.places.specs.declared.Event.{Event}
+use Rattle.marks.specs.Marks.{remarked, changed, changes, told, alerted, flagged}
+use Rattle.marks.specs.Reset.{unmarked, cleared}
+use Rattle.marks.specs.declared.Actor.{Actor}
+use Rattle.places.specs.Actions.{releasedBy, room, isNoRoom, taken}
 use Rattle.places.specs.declared.Room.{Room}
-use Rattle.places.specs.declared.Room.the-variants.{Free, Taken, NoRoom}
-use Rattle.drive.specs.Calls.{Call, powerUp, securityIn, securityOut, write, unitReset, happens}
-use Rattle.drive.specs.Answers.{heard, check5, check6, isOutPage, isNoRoom, check10, pageChecked, answer}
-use Rattle.drive.proofs.Checks.{all-done, passed}
-use Rattle.drive.specs.After.{marksAfter, remarked, refused, registers, told, alerted, flagged, accepted, actorOf, happened, cleared, after}
-use Rattle.drive.specs.declared.Actor.{Actor}
-use Rattle.drive.specs.declared.Actor.the-variants.{Acting}
-use Rattle.kept.proofs.Kept.{releases-kept, marks-kept, mark-kept, SetFit, KeyFit, Fit, taken-kept}
+use Rattle.places.specs.declared.Room.the-variants.{NoRoom}
+use Rattle.drive.specs.Calls.{Call}
+use Rattle.drive.specs.Effects.{Effect, nothing, marks, takes, clears, releasing, restarts, effect}
+use Rattle.drive.specs.After.{changedBy, Telling, carriedOut, byNumber, after}
+use Rattle.drive.proofs.Effects as effects
+use Rattle.kept.proofs.Kept.{releases-kept, marks-kept, mark-kept, SetFit, Fit, taken-kept}
 
 -- ---- marks, flags and the reset are free
 
-pub refused-kept : (s : State) (n : ℕ) (a : Answer) → wellFormed (refused s n a) ≡ wellFormed s
-unfolding refused
-refused-kept s n a = mark-kept n (remarked (marksAfter a)) s refl
+changes-kept : (s : State) (n : ℕ) (change : Change) → wellFormed (changes s n change) ≡ wellFormed s
+unfolding changes
+changes-kept s n change = mark-kept n (remarked (changed change)) s refl
 
-pub registers-kept : (s : State) (n : ℕ) → wellFormed (registers s n) ≡ wellFormed s
-unfolding registers
-registers-kept s n = mark-kept n (remarked registered) s refl
-
-pub flagged-kept : (actor : Actor) (s t : State) → wellFormed (flagged actor s t) ≡ wellFormed t
+flagged-kept : (differ : ℕ → Bool) (actor : Actor) (s t : State) → wellFormed (flagged differ actor s t) ≡ wellFormed t
 unfolding flagged
-flagged-kept actor s t = marks-kept (λ n. remarked (alerted actor (told s t actor n))) (λ n x. refl) t
+flagged-kept differ actor s t = marks-kept (λ n. remarked (alerted actor (told differ s actor n))) (λ n x. refl) t
 
-pub cleared-kept : (s : State) → wellFormed (cleared s) ≡ wellFormed s
+cleared-kept : (s : State) → wellFormed (cleared s) ≡ wellFormed s
 unfolding cleared
 cleared-kept s =
     ap (λ (l : List Nexus). wellFormed (withNexuses l s)) (sym (mapFrom-map unmarked 0 (s .nexuses))) ∙ marks-kept (λ n. unmarked) (λ n x. refl) s
 
--- ---- what an accepted page is, to the places
+-- ---- what a page that is taken is, to the places
 
 -- a place that isn't none
 some-room : (r : Room) → isNoRoom r ≡ false → r ≡ NoRoom → ⊥
@@ -70,73 +59,53 @@ some-room r f e = clash (ap isNoRoom e) f
 room-there : (supplemental local : Bool) (r : Room) → (not supplemental && local && isNoRoom r) ≡ false → supplemental ≡ false → local ≡ true → r ≡ NoRoom → ⊥
 room-there supplemental local r f s l = some-room r (rw (s, l) at f)
 
-module _ (s : State) (n : ℕ) (p : List ℕ) where
-  -- the page that the check gives
-  abbrev read : Page
-  read = pageChecked s n p .page
+set-fit : (page : Page) → IsSet page → SetFit (page .fields)
+set-fit page x = record {
+  codes = ranges-good (page .fields) (record { encryption = x .encryption; decryption = x .decryption; index = omega (arith, x .index); ceem = x .ceem; lengths = good-lengths (x .kads) });
+  index = x .index;
+  tails = good-tails (x .kads);
+}
 
-  set-fit : (page : Page) → IsSet page → SetFit (page .fields)
-  set-fit page x = record {
-    codes = ranges-good (page .fields) (record { encryption = x .encryption; decryption = x .decryption; index = omega (arith, x .index); ceem = x .ceem; lengths = good-lengths (x .kads) });
-    index = x .index;
-    tails = good-tails (x .kads);
-  }
-
-  -- what crate page guarantees of an accepted page is what crate places asks
-  page-fit : pageChecked s n p .answer ≡ Done → isDone (check10 s n read) ≡ true → Fit s n read
-  page-fit e c =
-      let found : (not (read .supplemental) && eqb (read .scope) localScope && isNoRoom (room s n)) ≡ false = passed _ NoPlaceForLocal refl c in
-      let place : read .supplemental ≡ false → read .scope ≡ localScope → room s n ≡ NoRoom → ⊥ =
-      λ f l. room-there (read .supplemental) (eqb (read .scope) localScope) (room s n) found f (eq-eqb _ _ l) in
-      ⊎-elim
-      (λ x. record {
-        scope = omega (arith, x .public);
-        fields = λ f some. absurd (omega (arith, x .public));
-        place = place;
-        key = λ t. clash t (x .fresh);
-      })
-      (λ y. ⊎-elim
-      (λ x. record {
-        scope = x .scoped .known;
-        fields = λ f. clash (x .supplemental) f;
-        place = place;
-        key = λ t. record { scope = sym (x .same); some = x .scoped .used; key = x .sized; fewer = x .room };
-      })
-      (λ x. record {
-        scope = x .scoped .known;
-        fields = λ f some. set-fit read x;
-        place = place;
-        key = λ t. clash t (x .fresh);
-      }) y)
-      (accepted-page p (nexusAt s n .scope) (selectedSet s n .fields .decryption) (selectedSet s n .supplemental .count) e)
+-- what crate page guarantees of an accepted page is what crate places asks
+page-fit : (s : State) (n : ℕ) (page : Page) → effects.Taken s n page → Fit s n page
+page-fit s n page t =
+    let place : page .supplemental ≡ false → page .scope ≡ localScope → room s n ≡ NoRoom → ⊥ =
+    λ f l. room-there (page .supplemental) (eqb (page .scope) localScope) (room s n) (t .placed) f (eq-eqb _ _ l) in
+    ⊎-elim
+    (λ x. record {
+      scope = omega (arith, x .public);
+      fields = λ f some. absurd (omega (arith, x .public));
+      place = place;
+      key = λ y. clash y (x .fresh);
+    })
+    (λ y. ⊎-elim
+    (λ x. record {
+      scope = x .scoped .known;
+      fields = λ f. clash (x .supplemental) f;
+      place = place;
+      key = λ z. record { scope = sym (x .same); some = x .scoped .used; key = x .sized; fewer = x .room };
+    })
+    (λ x. record {
+      scope = x .scoped .known;
+      fields = λ f some. set-fit page x;
+      place = place;
+      key = λ z. clash z (x .fresh);
+    }) y)
+    (rw (t .read) at (accepted-page (t .bytes) (nexusAt s n .scope) (selectedSet s n .fields .decryption) (selectedSet s n .supplemental .count) (t .found)))
 
 -- ---- every call
 
--- a page that is carried out
-out-kept : (s : State) (n protocol code : ℕ) (p : List ℕ) → 0 < length (s .sets) → wellFormed s ≡ true → isDone (answer s (securityOut n protocol code p)) ≡ true
-    → wellFormed (accepted s n (pageChecked s n p .page)) ≡ true
-unfolding answer accepted
-out-kept s n protocol code p some w e =
-    let all = all-done (heard s n ++ check5 protocol ∷ check6 (isOutPage code) ∷ pageChecked s n p .answer ∷ check10 s n (pageChecked s n p .page) ∷ []) e in
-    let page = all .1 .1 .1 .1 .1 .1 in
-    let within : n < length (s .nexuses) = leb-false (length (s .nexuses)) n (passed _ NexusAbove refl (all .1 .0)) in
-    let read = pageChecked s n p .page in
-    flagged-kept (Acting n) s (registers (taken s n read) n)
-    ∙ registers-kept (taken s n read) n
-    ∙ taken-kept s n read w within some (page-fit s n p (done-is _ (page .0)) (page .1 .0))
-
-happened-kept : (s : State) (event : Event) → wellFormed s ≡ true → wellFormed (happened s event) ≡ true
-unfolding happened
-happened-kept s event w = flagged-kept (actorOf event) s _ ∙ releases-kept (releasedBy event) s w
+-- what is known of an effect is enough for it to leave a well-formed record well formed, whoever is told
+pub effect-kept : (rule : Telling) (s : State) (e : Effect) → effects.Due s e → 0 < length (s .nexuses) → 0 < length (s .sets) → wellFormed s ≡ true → wellFormed (carriedOut rule s e) ≡ true
+unfolding carriedOut changedBy
+effect-kept rule s nothing d nexuses places w = w
+effect-kept rule s (marks n change) d nexuses places w = changes-kept s n change ∙ w
+effect-kept rule s (takes n page) d nexuses places w =
+    flagged-kept _ _ s (changes (taken s n page) n Registered) ∙ changes-kept (taken s n page) n Registered ∙ taken-kept s n page w (d .within) places (page-fit s n page d)
+effect-kept rule s clears d nexuses places w = cleared-kept s ∙ w
+effect-kept rule s (releasing event) d nexuses places w = flagged-kept _ _ s _ ∙ releases-kept (releasedBy event) s w
+effect-kept rule s restarts d nexuses places w = power-on-well (length (s .nexuses)) (length (s .sets)) (λ h. nexuses)
 
 -- Every call of a well-formed record leaves a well-formed record.
-pub call-kept : (s : State) (c : Call) → 0 < length (s .nexuses) → 0 < length (s .sets) → wellFormed s ≡ true → wellFormed (after s c) ≡ true
-unfolding after
-call-kept s powerUp nexuses places w = power-on-well (length (s .nexuses)) (length (s .sets)) (λ h. nexuses)
-call-kept s (securityIn n protocol code) nexuses places w =
-    pick-elim (λ t. wellFormed t ≡ true) (isDone (answer s (securityIn n protocol code))) (λ e. registers-kept s n ∙ w) (λ e. refused-kept s n _ ∙ w)
-call-kept s (securityOut n protocol code p) nexuses places w =
-    pick-elim (λ t. wellFormed t ≡ true) (isDone (answer s (securityOut n protocol code p))) (λ e. out-kept s n protocol code p places w e) (λ e. refused-kept s n _ ∙ w)
-call-kept s (write n supported) nexuses places w = refused-kept s n _ ∙ w
-call-kept s unitReset nexuses places w = pick-elim (λ t. wellFormed t ≡ true) (isDone (answer s unitReset)) (λ e. cleared-kept s ∙ w) (λ e. w)
-call-kept s (happens event) nexuses places w = pick-elim (λ t. wellFormed t ≡ true) (isDone (answer s (happens event))) (λ e. happened-kept s event w) (λ e. w)
+pub call-kept : (s : State) (call : Call) → 0 < length (s .nexuses) → 0 < length (s .sets) → wellFormed s ≡ true → wellFormed (after s call) ≡ true
+call-kept s call = effect-kept byNumber s (effect s call) (effects.effect-due s call)

@@ -2,7 +2,7 @@
 -- Assumes nothing.
 use Prim.Native.Nat.{ℕ}
 use mathlib.Core.Path.{_≡_, refl, sym, ap, _∙_}
-use mathlib.Core.Bool.{Bool, true, _&&_, _||_, or-false}
+use mathlib.Core.Bool.{Bool, true, or-false}
 use native.Mathlib.Omega.{arith}
 use borrow.Author.Tests.{eqb-true, eqb-false, eq-eqb}
 use lib.Dec.{eqb}
@@ -16,10 +16,7 @@ use Rattle.device.proofs.Selecting.{selected-shared, selected-local, selected-o
 use Rattle.device.proofs.WellFormed.{nexus-at}
 use Rattle.device.specs.Updates.{withScope}
 use Rattle.places.specs.Actions.{freed}
-
--- the nexus is LOCAL and owns the place, or is ALL and the place is 0
-abbrev pub loses : State → ℕ → ℕ → Bool
-loses s place n = (eqb (nexusAt s n .scope) localScope && owns n (setAt s place)) || (eqb (nexusAt s n .scope) allScope && eqb place 0)
+use Rattle.kept.specs.Worded.{loses}
 
 module _ (s : State) (w : wellFormed s ≡ true) (place n : ℕ) where
   -- a LOCAL nexus uses the place exactly where it owns it

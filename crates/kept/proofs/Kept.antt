@@ -36,16 +36,17 @@ use Rattle.places.specs.Actions.{Action, release, establish, act, acts, release
 use Rattle.places.specs.declared.Room.{Room}
 use Rattle.places.specs.declared.Room.the-variants.{Free, Taken, NoRoom}
 use Rattle.places.proofs.Lengths.{act-size, acts-size}
-use Rattle.places.proofs.Releases.{acts-append}
-use Rattle.kept.proofs.Steps.{releases-by}
+use Rattle.places.proofs.Releases.{acts-append, releases-elim}
 use Rattle.kept.proofs.Near.{none, only, held, Near, near-of, near-well, owns-used, owned, Proper, act-set-by, act-count, act-near, release-near, set-near}
 
 -- ---- releases
 
 -- releasing the used places that any test picks leaves a well-formed record well formed
 pub releases-kept : (picked : ℕ → Set → Bool) (s : State) → wellFormed s ≡ true → wellFormed (acts s (releases picked (s .sets))) ≡ true
+unfolding acts
 releases-kept picked s w =
-    near-well (acts s (releases picked (s .sets))) (releases-by (Near none) (release-near none) picked (s .sets) s (near-of none s w))
+    near-well (acts s (releases picked (s .sets)))
+    (releases-elim (λ actions. (x : State) → Near none x → Near none (acts x actions)) (λ x h. h) (λ place rest keep x h. keep (act x (release place)) (release-near none x place h)) picked (s .sets) s (near-of none s w))
 
 -- ---- marks
 

@@ -69,7 +69,7 @@ pub owns-used : (i : ℕ) (set : Set) → owns i set ≡ true → used set ≡ t
 owns-used i set o = ap (λ (k : ℕ). not (eqb k 0)) (eqb-true (set .scope) localScope (and-left _ _ o))
 
 -- and its owner is the nexus
-pub owns-owner : (i : ℕ) (set : Set) → owns i set ≡ true → set .owner ≡ i
+owns-owner : (i : ℕ) (set : Set) → owns i set ≡ true → set .owner ≡ i
 owns-owner i set o = eqb-true (set .owner) i (and-right (eqb (set .scope) localScope) _ o)
 
 -- a LOCAL nexus that owns one place alone uses that

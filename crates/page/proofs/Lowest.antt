@@ -10,41 +10,26 @@ use native.Mathlib.Omega.{arith}
 use borrow.Author.Tests.{ltb-true, ltb-false, leb-true, le-leb}
 use lib.Dec.{ltb, leb}
 use lib.ListN.{length, drop, length-drop}
-use Rattle.arrays.specs.Base.{pick}
 use Rattle.arrays.proofs.Base.{cases, clash}
-use Rattle.wire.specs.Rules.{lengthWrong, Rule, rule, breach}
-use Rattle.wire.proofs.Rules.{AllHold, Under, kept, none, low, high, Sorted, BreaksAt, lowest, breaks, sorted-from, sorted-append, hold-append, under-append, under-more, zeros-sorted}
+use Rattle.wire.specs.Rules.{lengthWrong, Rule, breach, BreaksAt}
+use Rattle.wire.proofs.Rules.{AllHold, Under, kept, none, low, high, Sorted, lowest, breaks, sorted-from, sorted-append, hold-append, under-append, under-more, zeros-sorted}
 use Rattle.answer.specs.Answers.{numberOf}
 use Rattle.answer.specs.declared.Answer.{Answer}
 use Rattle.answer.specs.declared.Answer.the-variants.{Done, PageLengthWrong, FieldWrong, FifthSupplementalKey}
 use Rattle.kad.specs.Kad.{noKads, withData}
 use Rattle.kad.specs.Reading.{headSize as descriptorHead, dataOf, nextOf, descriptorRules, listed}
+use Rattle.kad.specs.Rules.{shifted, listRules}
 use Rattle.kad.specs.declared.Kads.{Kads}
 use Rattle.kad.specs.declared.Seen.{Seen}
 use Rattle.kad.specs.declared.Seen.the-variants.{Nothing, Last}
 use Rattle.kad.proofs.Reading.{rules-hold, room, fault-lt}
-use Rattle.kad.proofs.Lowest.{shifted, listRules, list-sorted, first-fault}
+use Rattle.kad.proofs.Lowest.{list-sorted, first-fault}
 use Rattle.page.specs.Fields.{isPublic, sdkOf, reservedFrom, reservedBytes, headSize, keySize, encryptionOf, decryptionOf, keyEnd, encrypts, listOf, listedOf}
 use Rattle.page.specs.Rules.{openRules, modeRules, plainRules, keyLength, keyRules, setRules, matchRules, endRules, supplementalRules}
 use Rattle.page.specs.Check.{refused, supplementalMost, publicPage, supplementalPage, setPage, checked}
+use Rattle.page.specs.Lowest.{afterRules, innerRules, pageRules, Lowest}
 use Rattle.page.specs.declared.Checked.{Checked}
 use Rattle.page.proofs.Parts.{open-under, mode-under, match-under, plain-under, key-under, least-there, set-hold, supplemental-hold, key-fits}
-
--- ---- all rules of a page
-
--- the rules of what stands after the key: with ENCRYPT those of the descriptors; "Without ENCRYPT the list is empty"
-unfoldable pub afterRules : List ℕ → List Rule
-afterRules p =
-    let rest = drop (keyEnd p) p in
-    pick (encrypts (encryptionOf p)) (listRules (length rest) (keyEnd p) rest Nothing) (rule (keyEnd p) (leb (length p) (keyEnd p)) ∷ [])
-
--- the rules past the page code and the scope, where the nexus's scope and its set's decryption mode are given
-unfoldable pub innerRules : List ℕ → ℕ → ℕ → List Rule
-innerRules p scope mode = pick (isPublic p) [] (pick (sdkOf p) (supplementalRules p scope mode) (setRules p ++ afterRules p))
-
--- all rules of a page
-abbrev pub pageRules : List ℕ → ℕ → ℕ → List Rule
-pageRules p scope mode = openRules p ++ innerRules p scope mode
 
 -- ---- they stand in the order of their bytes
 
@@ -110,11 +95,6 @@ pub page-sorted : (p : List ℕ) (scope mode : ℕ) → Sorted 0 (pageRules p sc
 page-sorted p scope mode = open-sorted p (innerRules p scope mode) (inner-sorted p scope mode)
 
 -- ---- the lowest byte
-
--- a rule breaks at byte i, and none at a lower byte
-pub record Lowest (i : ℕ) (rules : List Rule) : Type 0 where
-  pub broken : BreaksAt i rules
-  pub least : (j : ℕ) → BreaksAt j rules → i ≤ j
 
 -- the first breach of rules in order, where it lies before the end
 lowest-of : (rules : List Rule) (top i : ℕ) → Sorted 0 rules → i ≡ breach rules top → i < top → Lowest i rules
@@ -282,33 +262,25 @@ differ : {C : Type 0} {a : Answer} (x y : Answer) → (numberOf x ≡ numberOf y
 differ x y n d e = absurd (n (ap numberOf (sym d ∙ e)))
 
 module _ (p : List ℕ) (scope mode count : ℕ) where
-  -- the outcome
-  abbrev c : Checked
-  c = checked p scope mode count
-
-  -- the page's rules
-  abbrev rules : List Rule
-  rules = pageRules p scope mode
-
   -- what follows from an answer that isn't 7
-  not-seven : {C : Type 0} (a : Answer) → (numberOf a ≡ 7 → ⊥) → c .answer ≡ a → (Verdict rules c → C) → C
+  not-seven : {C : Type 0} (a : Answer) → (numberOf a ≡ 7 → ⊥) → checked p scope mode count .answer ≡ a → (Verdict (pageRules p scope mode) (checked p scope mode count) → C) → C
   not-seven a n e f =
       cases (lengthWrong headSize p) (λ t. differ PageLengthWrong a (λ z. n (sym z)) (ap (λ (x : Checked). x .answer) (length-verdict p scope mode count t)) e) (λ t. f (page-verdict p scope mode count t))
 
   -- Where the answer is 8, a rule of the page breaks at the faulty byte, and none at a lower byte.
-  pub wrong-is-lowest : c .answer ≡ FieldWrong → Lowest (c .fault) rules
+  pub wrong-is-lowest : checked p scope mode count .answer ≡ FieldWrong → Lowest (checked p scope mode count .fault) (pageRules p scope mode)
   wrong-is-lowest e =
       not-seven FieldWrong (λ z. omega arith) e
       (λ v. ⊎-elim (λ w. w .fault) (λ r. ⊎-elim (λ d. differ Done FieldWrong (λ z. omega arith) d e) (λ d. differ FifthSupplementalKey FieldWrong (λ z. omega arith) d e) (r .told)) v)
 
   -- where it is an answer that isn't 7 or 8, every rule holds
-  holds-of : (a : Answer) → (numberOf a ≡ 7 → ⊥) → (numberOf a ≡ 8 → ⊥) → c .answer ≡ a → AllHold rules
+  holds-of : (a : Answer) → (numberOf a ≡ 7 → ⊥) → (numberOf a ≡ 8 → ⊥) → checked p scope mode count .answer ≡ a → AllHold (pageRules p scope mode)
   holds-of a n m e = not-seven a n e (λ v. ⊎-elim (λ w. differ FieldWrong a (λ z. m (sym z)) (w .told) e) (λ r. r .holds) v)
 
   -- Where the page is done, no rule breaks,
-  pub done-breaks-none : c .answer ≡ Done → (i : ℕ) → BreaksAt i rules → ⊥
-  done-breaks-none e i b = hold-none rules i (holds-of Done (λ z. omega arith) (λ z. omega arith) e) b
+  pub done-breaks-none : checked p scope mode count .answer ≡ Done → (i : ℕ) → BreaksAt i (pageRules p scope mode) → ⊥
+  done-breaks-none e i b = hold-none (pageRules p scope mode) i (holds-of Done (λ z. omega arith) (λ z. omega arith) e) b
 
   -- nor where it brings a fifth supplemental key.
-  pub fifth-breaks-none : c .answer ≡ FifthSupplementalKey → (i : ℕ) → BreaksAt i rules → ⊥
-  fifth-breaks-none e i b = hold-none rules i (holds-of FifthSupplementalKey (λ z. omega arith) (λ z. omega arith) e) b
+  pub fifth-breaks-none : checked p scope mode count .answer ≡ FifthSupplementalKey → (i : ℕ) → BreaksAt i (pageRules p scope mode) → ⊥
+  fifth-breaks-none e i b = hold-none (pageRules p scope mode) i (holds-of FifthSupplementalKey (λ z. omega arith) (λ z. omega arith) e) b

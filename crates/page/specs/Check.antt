@@ -7,6 +7,7 @@ use lib.Dec.{ltb, leb}
 use lib.ListN.{length}
 use Rattle.arrays.specs.Base.{pick}
 use Rattle.wire.specs.Rules.{lengthWrong, breach}
+use Rattle.answer.specs.Answers.{senseOf}
 use Rattle.answer.specs.declared.Answer.{Answer}
 use Rattle.answer.specs.declared.Answer.the-variants.{Done, PageLengthWrong, FieldWrong, FifthSupplementalKey}
 use Rattle.page.specs.Fields.{headSize, scopeOf, isPublic, lockOf, sdkOf, keyEnd, keyOf, listedOf, onlyKey, noFields, setFields}
@@ -20,10 +21,10 @@ noPage = record { scope = 0; lock = false; supplemental = false; fields = noFiel
 
 -- answer 8 has the faulty byte's number; any other refusal 0
 abbrev pub refused : Answer → ℕ → Checked
-refused answer fault = record { answer = answer; fault = fault; page = noPage }
+refused answer fault = record { answer = answer; sense = senseOf answer; fault = fault; page = noPage }
 
 abbrev pub accepted : Page → Checked
-accepted page = record { answer = Done; fault = 0; page = page }
+accepted page = record { answer = Done; sense = senseOf Done; fault = 0; page = page }
 
 -- the most supplemental keys of a set
 abbrev pub supplementalMost : ℕ

@@ -1,3 +1,4 @@
 pub mod Fields
 pub mod Rules
 pub mod Check
+pub mod Lowest

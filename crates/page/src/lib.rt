@@ -1,5 +1,6 @@
 // The Set Data Encryption page: its rules checked, its fields read.
 use answer::Answer;
+use answer::Sense;
 use kad::Kads;
 use kad::Listed;
 ghost use mathlib.Core.Path.{_≡_};
@@ -62,6 +63,7 @@ pub struct Page {
 // What the check answers, the faulty byte (0 but for answer 8), and the page (zeros where refused).
 pub struct Checked {
     pub answer: Answer,
+    pub sense: Sense,
     pub fault: usize,
     pub page: Page,
 }
@@ -80,6 +82,7 @@ fn refuse(answer: Answer, fault: usize) -> Checked
 {
     Checked {
         answer,
+        sense: answer::sense_of(answer),
         fault,
         page: Page::NONE,
     }
@@ -293,6 +296,7 @@ fn check_set(page: &[u8]) -> Checked
     let fields = set_fields(page, key, kads);
     Checked {
         answer: Answer::Done,
+        sense: Sense::NONE,
         fault: 0,
         page: Page {
             scope: byte4.scope,
@@ -322,6 +326,7 @@ fn check_supplemental(page: &[u8], scope: u8, mode: u8, count: u8) -> Checked
     fields.key = key;
     Checked {
         answer: Answer::Done,
+        sense: Sense::NONE,
         fault: 0,
         page: Page {
             scope: byte4.scope,
@@ -342,6 +347,7 @@ fn check_public(page: &[u8]) -> Checked
     read.lock = byte4.lock;
     Checked {
         answer: Answer::Done,
+        sense: Sense::NONE,
         fault: 0,
         page: read,
     }

@@ -1,5 +1,5 @@
-pub mod Within
 pub mod Lengths
 pub mod Releases
 pub mod Settled
+pub mod Settling
 pub mod Worked

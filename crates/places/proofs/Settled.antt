@@ -1,27 +1,52 @@
 -- Every public function's promise settles its answer.
 use Rattle.settled.specs.Settles.{SettlesAnswer, same}
-use Rattle.places.proofs.own_place.Reads as own-place
-use Rattle.places.proofs.own_place.Kinds as own-place-kinds
-use Rattle.places.proofs.room_for.Reads as room-for
-use Rattle.places.proofs.room_for.Kinds as room-for-kinds
-use Rattle.places.proofs.take_page.Reads as take-page
-use Rattle.places.proofs.take_page.Kinds as take-page-kinds
-use Rattle.places.proofs.none_due.Reads as none-due
-use Rattle.places.proofs.none_due.Kinds as none-due-kinds
-use Rattle.places.proofs.release_by.Reads as release-by
-use Rattle.places.proofs.release_by.Kinds as release-by-kinds
+use Rattle.places.proofs.draw.Reads as draw
+use Rattle.places.proofs.draw.Kinds as draw-kinds
+use Rattle.places.proofs.free.Reads as free
+use Rattle.places.proofs.free.Kinds as free-kinds
+use Rattle.places.proofs.is_empty_local.Reads as is-empty-local
+use Rattle.places.proofs.is_empty_local.Kinds as is-empty-local-kinds
+use Rattle.places.proofs.free_at.Reads as free-at
+use Rattle.places.proofs.free_at.Kinds as free-at-kinds
+use Rattle.places.proofs.taken_at.Reads as taken-at
+use Rattle.places.proofs.taken_at.Kinds as taken-at-kinds
+use Rattle.places.proofs.is_no_room.Reads as is-no-room
+use Rattle.places.proofs.is_no_room.Kinds as is-no-room-kinds
+use Rattle.places.proofs.needs_place.Reads as needs-place
+use Rattle.places.proofs.needs_place.Kinds as needs-place-kinds
+use Rattle.places.proofs.settle_nexus.Reads as settle-nexus
+use Rattle.places.proofs.settle_nexus.Kinds as settle-nexus-kinds
+use Rattle.places.proofs.append.Reads as append
+use Rattle.places.proofs.append.Kinds as append-kinds
+use Rattle.places.proofs.is_due.Reads as is-due
+use Rattle.places.proofs.is_due.Kinds as is-due-kinds
 
-pub own-place-settles : SettlesAnswer 0 own-place-kinds.ps own-place-kinds.r own-place.Post
-own-place-settles κs a x y s t p q = same p q
+pub draw-settles : SettlesAnswer 0 draw-kinds.ps draw-kinds.r draw.Post
+draw-settles κs a x y s t p q = same p q
 
-pub room-for-settles : SettlesAnswer 0 room-for-kinds.ps room-for-kinds.r room-for.Post
-room-for-settles κs a x y s t p q = same p q
+pub free-settles : SettlesAnswer 0 free-kinds.ps free-kinds.r free.Post
+free-settles κs a x y s t p q = same p q
 
-pub take-page-settles : SettlesAnswer 0 take-page-kinds.ps take-page-kinds.r take-page.Post
-take-page-settles κs a x y s t p q = same p q
+pub is-empty-local-settles : SettlesAnswer 0 is-empty-local-kinds.ps is-empty-local-kinds.r is-empty-local.Post
+is-empty-local-settles κs a x y s t p q = same p q
 
-pub none-due-settles : SettlesAnswer 0 none-due-kinds.ps none-due-kinds.r none-due.Post
-none-due-settles κs a x y s t p q = same p q
+pub free-at-settles : SettlesAnswer 0 free-at-kinds.ps free-at-kinds.r free-at.Post
+free-at-settles κs a x y s t p q = same p q
 
-pub release-by-settles : SettlesAnswer 0 release-by-kinds.ps release-by-kinds.r release-by.Post
-release-by-settles κs a x y s t p q = same p q
+pub taken-at-settles : SettlesAnswer 0 taken-at-kinds.ps taken-at-kinds.r taken-at.Post
+taken-at-settles κs a x y s t p q = same p q
+
+pub is-no-room-settles : SettlesAnswer 0 is-no-room-kinds.ps is-no-room-kinds.r is-no-room.Post
+is-no-room-settles κs a x y s t p q = same p q
+
+pub needs-place-settles : SettlesAnswer 0 needs-place-kinds.ps needs-place-kinds.r needs-place.Post
+needs-place-settles κs a x y s t p q = same p q
+
+pub settle-nexus-settles : SettlesAnswer 0 settle-nexus-kinds.ps settle-nexus-kinds.r settle-nexus.Post
+settle-nexus-settles κs a x y s t p q = same p q
+
+pub append-settles : SettlesAnswer 0 append-kinds.ps append-kinds.r append.Post
+append-settles κs a x y s t p q = same p q
+
+pub is-due-settles : SettlesAnswer 0 is-due-kinds.ps is-due-kinds.r is-due.Post
+is-due-settles κs a x y s t p q = same p q

@@ -1,7 +1,7 @@
 -- Document 01, "Establishing, releasing, selecting", in its order. Selecting stands in crate device.
 -- No definition here looks at an instance number but to give one.
 use Prim.Native.Nat.{ℕ, _+_, _*_, _%_, _^_}
-use mathlib.Core.Bool.{Bool, true, not, _&&_}
+use mathlib.Core.Bool.{Bool, true, false, not, _&&_}
 use mathlib.Core.List.{List, [], _∷_, _++_}
 use lib.Dec.{leb, eqb}
 use lib.ListN.{set}
@@ -101,18 +101,37 @@ room s n =
     (freeAt (find At Nowhere emptyLocal (s .sets))
     (takenAt (find At Nowhere (unlockedLocal s) (s .sets))))
 
+-- there is none
+abbrev pub isNoRoom : Room → Bool
+isNoRoom (Free place) = false
+isNoRoom (Taken place) = false
+isNoRoom NoRoom = true
+
+-- a page that needs a place for its LOCAL set
+abbrev pub needsPlace : Page → Bool
+needsPlace page = not (page .supplemental) && eqb (page .scope) localScope
+
+-- and has none
+abbrev pub noPlace : State → ℕ → Page → Bool
+noPlace s n page = needsPlace page && isNoRoom (room s n)
+
 abbrev pub establishIn : Room → ℕ → Fields → List Action
 establishIn (Free place) n fields = establish place n localScope fields ∷ []
 establishIn (Taken place) n fields = release place ∷ establish place n localScope fields ∷ []
 establishIn NoRoom n fields = []
+
+-- "PUBLIC: the nexus's own LOCAL place, if any, is released. ALL: its LOCAL place, if any, is released first; place 0 is established"
+abbrev pub sharedActions : State → ℕ → Page → List Action
+sharedActions s n page =
+    pick (eqb (page .scope) allScope) (releaseOwn s n ++ establish 0 n allScope (page .fields) ∷ [])
+    (releaseOwn s n)
 
 -- "An accepted page that is PUBLIC or has SDK 0"; a supplemental key is no action
 unfoldable pub pageActions : State → ℕ → Page → List Action
 pageActions s n page =
     pick (page .supplemental) []
     (pick (eqb (page .scope) localScope) (establishIn (room s n) n (page .fields))
-    (pick (eqb (page .scope) allScope) (releaseOwn s n ++ establish 0 n allScope (page .fields) ∷ [])
-    (releaseOwn s n)))
+    (sharedActions s n page))
 
 -- "The nexus's scope is SCOPE, lock is LOCK; with LOCK 1 it saves its selected set's number afterwards, with LOCK 0 the saved number
 -- stays. LOCAL saves its last-LOCAL number."

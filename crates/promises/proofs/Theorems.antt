@@ -1,7 +1,13 @@
 -- What is proved beyond the promises of single functions. Each line passes on a theorem under the name by which docs/THEOREMS.md cites it.
 
--- The table of answer numbers and sense bytes is document 01's, row by row.
+-- The table of answers is document 01's, row by row: number, sense bytes, record change.
 pub use Rattle.answer.proofs.Table.{table as answers-as-printed}
+-- Every call has an answer of that table with its row's sense, and a refused one writes no byte.
+pub use Rattle.drive.proofs.Refusals.{every-call-answers}
+-- A refusal changes what its row says of its sender's marks, and nothing else.
+pub use Rattle.drive.proofs.Refusals.{refusals-change}
+-- On a well-formed record the part of a call after check 1 answers as the call does.
+pub use Rattle.drive.proofs.Effects.{known-agrees}
 -- Key-associated data written and read back are the same; a list that is accepted, read and written again, has the same bytes.
 pub use Rattle.kad.proofs.RoundTrip.{read-of-written as kad-read-of-written, written-of-read as kad-written-of-read}
 -- The faulty byte of a refused page is the lowest at which a rule breaks; of a page that is taken, none breaks.
@@ -17,10 +23,22 @@ pub use Rattle.device.proofs.WellFormed.{power-on-well}
 pub use Rattle.kept.proofs.Runs.{since-power-on, never-1}
 -- Our single action frees "LOCAL there, or ALL for place 0", as document 01 words it.
 pub use Rattle.kept.proofs.Freed.{freed-as-worded}
--- With every instance number struck out the record goes its way by itself, and the actions are the same.
-pub use Rattle.history.proofs.Strike.{strike-commutes, actions-struck}
+-- Records that agree but for their numbers give the same effect, the same actions and, but for numbers, the same record after.
+pub use Rattle.history.proofs.Bare.{same-but-numbers}
+-- Before the wrap a nexus is told by number exactly where its place differs or a call acted on it.
+pub use Rattle.history.proofs.Bare.{told-by-action}
+-- The reading's record is the run's with the numbers left out, and it reads of each call what the call did.
+pub use Rattle.history.proofs.Runs.{reading-is-run}
 -- Demand 3: a locked nexus has a latest accepted page that was not supplemental, and its write, no earlier refusal due, is answered 11
--- exactly if a later call acted on the place that this page left it using; and the position of the first such call.
-pub use Rattle.history.proofs.Demand.{demand3, first-touch}
+-- exactly if a later call acted on the place that this page left it using; of the reading without numbers, and of the run itself.
+pub use Rattle.history.proofs.Demand.{demand3, demand3-run}
+-- There is exactly one latest page.
+pub use Rattle.history.proofs.Trails.{latest-is-one, latest-page-is-one}
+-- The position of the first call that touched the set.
+pub use Rattle.history.proofs.Demand.{first-touch}
+-- Two sets never share a number before the wrap.
+pub use Rattle.history.proofs.Demand.{numbers-apart}
+-- Demand 3 applied to P7, P8 and P9: the first two are stopped, the third passes.
+pub use Rattle.history.proofs.Worked.{p7-stopped, p8-stopped, p9-passes}
 -- A supplemental key is no action; releasing an empty place is none; an empty place 0 is acted on only by being replaced.
 pub use Rattle.history.proofs.NoAction.{supplemental-no-action, empty-release-no-action, default-only-replaced}

@@ -1,5 +1,5 @@
 -- What a promise settles: any two outcomes that meet it are equal, the answer and what the caller lent.
-use mathlib.Core.Path.{_≡_, refl, sym, _∙_}
+use mathlib.Core.Path.{_≡_, sym, _∙_}
 use mathlib.Core.List.{List}
 use Prim.Native.Nat.{ℕ}
 use contract.Lifetimes.{Lfts}

@@ -18,7 +18,7 @@ use Rattle.answer.specs.declared.Answer.{Answer}
 use Rattle.answer.specs.declared.Answer.the-variants.{Done, PageLengthWrong, FieldWrong}
 use Rattle.kad.specs.Reading.{readKads}
 use Rattle.kad.specs.declared.Listed.{Listed}
-use Rattle.status.specs.Reading.{headSize, headGood, listGood, values, refused, readStatus}
+use Rattle.status.specs.Reading.{readOf, headSize, headGood, listGood, values, refused, readStatus}
 use Rattle.status.specs.declared.StatusRead.{StatusRead}
 
 -- ---- the length
@@ -52,7 +52,7 @@ module _ (p : List ℕ) where
     refused-field e = rw (l, e) refl
 
     -- nothing is wrong
-    pub accepted : (headGood p && listGood (drop headSize p)) ≡ true → readStatus p ≡ record { answer = Done; status = values p }
+    pub accepted : (headGood p && listGood (drop headSize p)) ≡ true → readStatus p ≡ readOf (values p)
     unfolding readStatus
     accepted e = rw (l, e) refl
 
@@ -71,7 +71,7 @@ pub record Accepted (p : List ℕ) : Type 0 where
   pub exact : wordAt p 2 + 4 ≡ length p
   pub head : headGood p ≡ true
   pub list : readKads (drop headSize p) .good ≡ length (drop headSize p)
-  pub is : readStatus p ≡ record { answer = Done; status = values p }
+  pub is : readStatus p ≡ readOf (values p)
 
 -- an answer other than Done
 not-done : {A : Type 0} {r : StatusRead} {answer : Answer} → (answer ≡ Done → ⊥) → r ≡ refused answer → r .answer ≡ Done → A

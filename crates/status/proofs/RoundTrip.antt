@@ -32,14 +32,10 @@ use Rattle.device.specs.WellFormed.{wellFormed}
 use Rattle.device.proofs.WellFormed.{set-at, nexus-at}
 use Rattle.status.specs.Pages.{pageOf}
 use Rattle.status.specs.Status.{statusFields, statusBytes, statusWith, statusOf, CodesInRange, InRange}
-use Rattle.status.specs.Reading.{headSize, scopesGood, headGood, valuesWith, values, readStatus}
+use Rattle.status.specs.Reading.{readOf, headSize, scopesGood, headGood, valuesWith, values, readStatus}
 use Rattle.status.specs.declared.Status.{Status}
 use Rattle.status.specs.declared.StatusRead.{StatusRead}
 use Rattle.status.proofs.Reading.{accepted, Accepted, known, Head, head-is}
-
--- what the reader gives of a page that it accepts
-abbrev pub done : Status → StatusRead
-done s = record { answer = Done; status = s }
 
 -- ---- written, then read
 
@@ -64,7 +60,7 @@ module _ (s : Status) (c : CodesInRange s) where
       simp (joined-good (s .nexusScope) (s .setScope) (c .nexusScope) (c .setScope), le-leb (s .encryption) 2 (c .encryption), le-leb (s .decryption) 3 (c .decryption), le-leb (s .index) 1 (c .index), control)
 
   -- Values whose codes are in range, written as a page, are accepted by the reader.
-  pub written-accepted : readStatus (statusBytes s) ≡ done (values (statusBytes s))
+  pub written-accepted : readStatus (statusBytes s) ≡ readOf (values (statusBytes s))
   unfolding statusBytes
   written-accepted =
       let list = kad.written-is-good (s .kads) (c .lengths) in
@@ -85,12 +81,12 @@ module _ (s : Status) (c : CodesInRange s) where
       rw (nexusScope, setScope, number-four (s .number) n, ceems, rdmd) refl
 
 -- Values in range, written as a page, are read back the same.
-pub read-of-written : (s : Status) → InRange s → readStatus (statusBytes s) ≡ record { answer = Done; status = s }
+pub read-of-written : (s : Status) → InRange s → readStatus (statusBytes s) ≡ readOf s
 unfolding statusBytes
 read-of-written s r =
     let c = r .codes in
     let list = kad.read-of-written (s .kads) (c .lengths) (r .tails) (r .sized) in
-    written-accepted s c ∙ ap done (ap (λ (x : Listed). valuesWith (statusBytes s) (x .kads)) list ∙ written-values s c (r .number))
+    written-accepted s c ∙ ap readOf (ap (λ (x : Listed). valuesWith (statusBytes s) (x .kads)) list ∙ written-values s c (r .number))
 
 -- ---- read, then written
 
@@ -199,5 +195,5 @@ module _ (s : State) (w : wellFormed s ≡ true) (n : ℕ) where
 
   -- It reads the values of that nexus, where the number of the set that the nexus uses has 32 bits, and its arrays have their sizes.
   pub well-formed-read : selectedSet s n .number < 2 ^ 32 → Sized (selectedSet s n .fields .kads)
-      → readStatus (statusBytes (statusOf s n)) ≡ record { answer = Done; status = statusOf s n }
+      → readStatus (statusBytes (statusOf s n)) ≡ readOf (statusOf s n)
   well-formed-read h z = read-of-written (statusOf s n) (record { codes = codes .0; number = h; tails = codes .1; sized = z })

@@ -13,8 +13,8 @@ use Rattle.status.proofs.write_capabilities.Reads as write-capabilities
 use Rattle.status.proofs.write_capabilities.Kinds as write-capabilities-kinds
 use Rattle.status.proofs.write_status.Reads as write-status
 use Rattle.status.proofs.write_status.Kinds as write-status-kinds
-use Rattle.status.proofs.status_of.Reads as status-of
-use Rattle.status.proofs.status_of.Kinds as status-of-kinds
+use Rattle.status.proofs.status_with.Reads as status-with
+use Rattle.status.proofs.status_with.Kinds as status-with-kinds
 use Rattle.status.proofs.read_status.Reads as read-status
 use Rattle.status.proofs.read_status.Kinds as read-status-kinds
 
@@ -34,8 +34,8 @@ write-capabilities-settles κs a x y s t p q = shown-same p q
 pub write-status-settles : Settles 1 write-status-kinds.ps write-status-kinds.r (List ℕ) (λ κs s. now (s .1 .0)) write-status.Post
 write-status-settles κs a x y s t p q = shown-same p q
 
-pub status-of-settles : SettlesAnswer 0 status-of-kinds.ps status-of-kinds.r status-of.Post
-status-of-settles κs a x y s t p q = same p q
+pub status-with-settles : SettlesAnswer 0 status-with-kinds.ps status-with-kinds.r status-with.Post
+status-with-settles κs a x y s t p q = same p q
 
 pub read-status-settles : SettlesAnswer 1 read-status-kinds.ps read-status-kinds.r read-status.Post
 read-status-settles κs a x y s t p q = same p q

@@ -13,12 +13,12 @@ use Rattle.kad.specs.Writing.{descriptors}
 use Rattle.kad.specs.declared.Kads.{Kads}
 use Rattle.page.specs.Fields.{keySize}
 use Rattle.page.specs.declared.Fields.{Fields}
-use Rattle.device.specs.Record.{State, nexusCount, placeCount, localScope, established, emptySet, noMarks, newNexus, powerOn}
+use Rattle.device.specs.Record.{State, localScope, established, emptySet, noMarks, newNexus, powerOn}
 use Rattle.device.specs.Selecting.{ownedPlace, selected}
 use Rattle.device.specs.declared.Nexus.{Nexus}
 use Rattle.status.specs.Pages.{pageOf, supportedIn, supportedOut, capabilities}
 use Rattle.status.specs.Status.{statusBytes, statusOf}
-use Rattle.status.specs.Reading.{headGood, refused, noStatus, readStatus}
+use Rattle.status.specs.Reading.{readOf, headGood, refused, noStatus, readStatus}
 use Rattle.status.specs.declared.Status.{Status}
 
 -- ---- the pages that never change
@@ -49,11 +49,11 @@ new (suc count) zero = refl
 new (suc count) (suc n) = new count n
 
 -- "status after power-on", of any nexus
-pub p1-written : (n : ℕ) → statusBytes (statusOf (powerOn nexusCount placeCount) n) ≡ p1
+pub p1-written : (n : ℕ) → statusBytes (statusOf (powerOn 16 5) n) ≡ p1
 unfolding statusBytes descriptors powerOn selected
-p1-written n = rw (new nexusCount n) refl
+p1-written n = rw (new 16 n) refl
 
-pub p1-read : readStatus p1 ≡ record { answer = Done; status = noStatus }
+pub p1-read : readStatus p1 ≡ readOf noStatus
 unfolding readStatus headGood listed
 p1-read = refl
 
@@ -85,8 +85,8 @@ local = record { scope = localScope; lock = true; saved = 1; lastLocal = 1; mark
 abbrev state : ℕ → Kads → State
 state number kads = record {
   counter = number;
-  sets = set (replicate placeCount (emptySet 0)) 1 (established 3 localScope number (fields kads));
-  nexuses = set (replicate nexusCount newNexus) 3 local;
+  sets = set (replicate 5 (emptySet 0)) 1 (established 3 localScope number (fields kads));
+  nexuses = set (replicate 16 newNexus) 3 local;
 }
 
 abbrev status : ℕ → Kads → Status
@@ -106,7 +106,7 @@ pub p2-written : statusBytes (statusOf (state 1 noKads) 3) ≡ p2
 unfolding statusBytes descriptors selected ownedPlace
 p2-written = refl
 
-pub p2-read : readStatus p2 ≡ record { answer = Done; status = status 1 noKads }
+pub p2-read : readStatus p2 ≡ readOf (status 1 noKads)
 unfolding readStatus headGood listed
 p2-read = refl
 
@@ -130,7 +130,7 @@ pub full-written : statusBytes (statusOf (state 0x01020304 kads) 3) ≡ full
 unfolding statusBytes descriptors selected ownedPlace
 full-written = refl
 
-pub full-read : readStatus full ≡ record { answer = Done; status = status 0x01020304 kads }
+pub full-read : readStatus full ≡ readOf (status 0x01020304 kads)
 unfolding readStatus headGood listed descriptorRules
 full-read = refl
 

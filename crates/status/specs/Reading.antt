@@ -10,6 +10,7 @@ use Rattle.wire.specs.Numbers.{byteAt, wordAt, numberAt}
 use Rattle.wire.specs.Fields.{statusByte4, statusByte12}
 use Rattle.wire.specs.Buffers.{allZero}
 use Rattle.wire.specs.Rules.{lengthWrong}
+use Rattle.answer.specs.Answers.{senseOf}
 use Rattle.answer.specs.declared.Answer.{Answer}
 use Rattle.answer.specs.declared.Answer.the-variants.{Done, PageLengthWrong, FieldWrong}
 use Rattle.kad.specs.Kad.{noKads}
@@ -53,7 +54,7 @@ valuesWith p kads = record {
 abbrev pub values : List ℕ → Status
 values p = valuesWith p (readKads (drop headSize p) .kads)
 
--- a refused answer carries its number only
+-- a refused answer carries its number and sense only
 abbrev pub noStatus : Status
 noStatus = record {
   nexusScope = 0;
@@ -68,9 +69,13 @@ noStatus = record {
 }
 
 abbrev pub refused : Answer → StatusRead
-refused answer = record { answer = answer; status = noStatus }
+refused answer = record { answer = answer; sense = senseOf answer; status = noStatus }
+
+-- one that is taken, with its values
+abbrev pub readOf : Status → StatusRead
+readOf status = record { answer = Done; sense = senseOf Done; status = status }
 
 unfoldable pub readStatus : List ℕ → StatusRead
 readStatus p =
     pick (lengthWrong headSize p) (refused PageLengthWrong)
-    (pick (headGood p && listGood (drop headSize p)) (record { answer = Done; status = values p }) (refused FieldWrong))
+    (pick (headGood p && listGood (drop headSize p)) (readOf (values p)) (refused FieldWrong))

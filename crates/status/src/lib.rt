@@ -1,6 +1,6 @@
 // The four response pages, and the reader of the status page for host tools.
 use answer::Answer;
-use device::Device;
+use answer::Sense;
 use device::Set;
 use kad::Kads;
 ghost use mathlib.Core.Path.{_≡_};
@@ -9,9 +9,8 @@ ghost use mathlib.Core.List.{_∷_, _++_};
 ghost use lib.ListN.{length};
 ghost use Rattle.wire.specs.Numbers.{two};
 ghost use Rattle.wire.specs.Buffers.{Shown};
-ghost use Rattle.device.specs.Record.{state};
 ghost use Rattle.status.specs.Pages.{supportedIn, supportedOut, capabilities};
-ghost use Rattle.status.specs.Status.{statusFields, statusBytes, statusWith, statusOf};
+ghost use Rattle.status.specs.Status.{statusFields, statusBytes, statusWith};
 ghost use Rattle.status.specs.Reading.{headSize, scopesGood, headGood, valuesWith, refused, readStatus};
 
 const HEAD_SIZE: usize = 24;
@@ -46,6 +45,7 @@ impl Status {
 // What reading a status page gives: the answer, and the values (zeros where refused).
 pub struct StatusRead {
     pub answer: Answer,
+    pub sense: Sense,
     pub status: Status,
 }
 
@@ -121,7 +121,7 @@ pub fn write_status(s: Status, buffer: &mut [u8]) -> usize
 }
 
 // The values told of a nexus with a scope, of the set that it uses.
-fn status_with(scope: u8, set: Set) -> Status
+pub fn status_with(scope: u8, set: Set) -> Status
     ensures { λ r. ⌜ r ≡ statusWith scope set ⌝ }
 {
     let kads = set.fields.kads;
@@ -136,14 +136,6 @@ fn status_with(scope: u8, set: Set) -> Status
         rdmd: set.fields.rdmd,
         kads,
     }
-}
-
-// The status values of a nexus.
-pub fn status_of(d: Device, n: usize) -> Status
-    ensures { λ r. ⌜ r ≡ statusOf (state d) n ⌝ }
-{
-    let nexus = device::nexus_at(d, n);
-    status_with(nexus.scope, device::selected_set(d, n))
 }
 
 // Byte 4 holds two scopes in range, with zeros between them.
@@ -194,6 +186,7 @@ fn refuse(answer: Answer) -> StatusRead
 {
     StatusRead {
         answer,
+        sense: answer::sense_of(answer),
         status: Status::NONE,
     }
 }
@@ -215,6 +208,7 @@ pub fn read_status(page: &[u8]) -> StatusRead
     let kads = list.kads;
     StatusRead {
         answer: Answer::Done,
+        sense: Sense::NONE,
         status: values_with(page, kads),
     }
 }

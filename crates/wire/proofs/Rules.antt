@@ -15,7 +15,7 @@ use lib.Seq.{drop-cons}
 use Rattle.arrays.proofs.Base.{cases, clash, both, pick-elim, pick-map}
 use Rattle.arrays.proofs.Laws.{all-cons}
 use Rattle.wire.specs.Buffers.{allZero}
-use Rattle.wire.specs.Rules.{Rule, breach, zeroRules}
+use Rattle.wire.specs.Rules.{Rule, breach, BreaksAt, zeroRules}
 use Rattle.wire.proofs.Zeros.{all-zero-first, all-zero-rest}
 
 -- ---- rules that hold, and the first that breaks
@@ -138,11 +138,6 @@ hold-append (r ∷ xs) ys h k = (h .0, hold-append xs ys (h .1) k)
 abbrev pub Sorted : ℕ → List Rule → Type 0
 Sorted m [] = Unit
 Sorted m (r ∷ rs) = (m ≤ r .at) × Sorted (r .at) rs
-
--- a rule that points to byte i breaks
-abbrev pub BreaksAt : ℕ → List Rule → Type 0
-BreaksAt i [] = ⊥
-BreaksAt i (r ∷ rs) = ((r .at ≡ i) × (r .holds ≡ false)) ⊎ BreaksAt i rs
 
 -- a rule that breaks points to no byte before the first
 above : (rs : List Rule) (m i : ℕ) → Sorted m rs → BreaksAt i rs → m ≤ i

@@ -1,6 +1,8 @@
 -- Rules of pages.
 use Prim.Native.Nat.{ℕ, suc, _+_}
-use mathlib.Core.Bool.{Bool, not, _||_}
+use mathlib.Core.Path.{_≡_}
+use mathlib.Core.Bool.{Bool, false, not, _||_}
+use mathlib.Core.Logic.{_⊎_}
 use mathlib.Core.List.{List, [], _∷_}
 use lib.Dec.{ltb, eqb}
 use lib.ListN.{length}
@@ -24,6 +26,11 @@ rule i ok = record { at = i; holds = ok }
 abbrev pub breach : List Rule → ℕ → ℕ
 breach [] top = top
 breach (r ∷ rs) top = pick (r .holds) (breach rs top) (r .at)
+
+-- a rule that points to byte i breaks
+abbrev pub BreaksAt : ℕ → List Rule → Type 0
+BreaksAt i [] = ⊥
+BreaksAt i (r ∷ rs) = ((r .at ≡ i) × (r .holds ≡ false)) ⊎ BreaksAt i rs
 
 -- each of these bytes, of which the first stands at byte i, is zero, and is a field of its own
 abbrev pub zeroRules : ℕ → List ℕ → List Rule

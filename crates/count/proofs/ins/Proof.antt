@@ -14,6 +14,7 @@ ins-spec =
     tie.close
     (tie.spec Inv-loop μ-loop
     (λ c. search needs)
+    (λ c κs. search needs)
     (λ c. search needs)
     (λ c κs. search needs)
     (λ c. search needs)

@@ -1,4 +1,3 @@
-use borrow.Author.Needs.{needs}
 use borrow.Author.Tests.{le-leb, lt-leb}
 use Rattle.drive.proofs.check_nexus.Statement.{statement}
 use Rattle.drive.proofs.check_nexus.Tie as tie

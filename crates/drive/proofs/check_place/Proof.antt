@@ -1,4 +1,3 @@
-use borrow.Author.Needs.{needs}
 use borrow.Author.Tests.{le-leb, lt-leb}
 use Rattle.drive.proofs.check_place.Statement.{statement}
 use Rattle.drive.proofs.check_place.Tie as tie

@@ -1,4 +1,3 @@
-use borrow.Author.Needs.{needs}
 use borrow.Author.Tests.{eq-eqb, ne-eqb}
 use Rattle.drive.proofs.decide.Statement.{statement}
 use Rattle.drive.proofs.decide.Tie as tie

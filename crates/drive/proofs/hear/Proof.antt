@@ -1,6 +1,4 @@
-use borrow.Author.Needs.{needs}
-use borrow.Author.Tests.{not-false}
-use mathlib.Core.Path.{sym, _∙_}
+use borrow.Author.Tests.{le-leb, lt-leb}
 use Rattle.drive.proofs.hear.Statement.{statement}
 use Rattle.drive.proofs.hear.Tie as tie
 
@@ -8,7 +6,7 @@ pub hear-spec : {M : Type 1} → statement M
 hear-spec =
     tie.close
     (tie.spec
-    (λ c κs. search needs)
-    (λ c. simp (← c .before .well-formed .ensures, c .if1 .taken))
-    (λ c κs. sym (c .before .well-formed .ensures) ∙ not-false _ (c .if1 .left))
-    (λ c. search needs))
+    (λ c. simp (le-leb _ _ (c .if1 .taken)))
+    (λ c. simp (lt-leb _ _ (c .before .if1 .left), c .if2 .taken))
+    (λ c. simp (lt-leb _ _ (c .before .before .if1 .left), c .before .if2 .left, c .if3 .taken))
+    (λ c. simp (lt-leb _ _ (c .before .before .if1 .left), c .before .if2 .left, c .if3 .left)))

@@ -7,9 +7,8 @@ use borrow.Author.Tests.{eq-eqb, ne-eqb, not-true, not-false}
 use denote.Ref.{now}
 use lib.ListN.{length}
 use Rattle.wire.specs.Rules.{lengthWrong}
-use Rattle.answer.specs.declared.Answer.the-variants.{Done}
 use Rattle.kad.specs.declared.Listed.{Listed}
-use Rattle.status.specs.Reading.{headSize, headGood, valuesWith}
+use Rattle.status.specs.Reading.{readOf, headSize, headGood, valuesWith}
 use Rattle.status.specs.declared.Status.{Status}
 use Rattle.status.proofs.Reading.{refused-length, long, refused-field, accepted, list-read}
 use Rattle.status.proofs.read_status.Statement.{statement}
@@ -60,5 +59,5 @@ read-status-spec =
     let at-head = c .before .before .before .before .before .before in
     let at-length = at-head .before .before in
     let rest = list-read (page at-length) (c .before .before .before .before .read .ensures .0) in
-    ap (λ (s : Status). record { answer = Done; status = s }) (c .values-with .ensures ∙ ap (λ (r : Listed). valuesWith (page at-length) (r .kads)) (rest .0))
+    ap (λ (s : Status). readOf s) (c .values-with .ensures ∙ ap (λ (r : Listed). valuesWith (page at-length) (r .kads)) (rest .0))
     ∙ sym (accepted (page at-length) (right at-length) (rw (good-head at-head, rest .1) (eq-eqb _ _ (c .before .before .if3 .left))))))

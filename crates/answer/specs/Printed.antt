@@ -1,0 +1,45 @@
+-- Document 01, "Answer numbers": the table as it is printed, for the answers in the order of their numbers.
+use mathlib.Core.List.{List, [], _∷_}
+use Rattle.answer.specs.Answers.{row}
+use Rattle.answer.specs.declared.Row.{Row}
+use Rattle.answer.specs.declared.Change.the-variants.{Unchanged, AnotherCleared, VendorCleared, Registered}
+use Rattle.answer.specs.declared.Answer.{Answer}
+use Rattle.answer.specs.declared.Answer.the-variants.{Done, NotWellFormed, NexusAbove, ChangedByAnotherNexus, ChangedByVendorEvent, ProtocolNotSupported, PageNotSupported, PageLengthWrong, FieldWrong, FifthSupplementalKey, NoPlaceForLocal, KeyInstanceChanged, ParametersNotUsable, PlaceAbove}
+
+-- the rows as document 01 prints them: number, sense key, ASC, ASCQ (zeros for "none"), record change
+abbrev pub printed : List Row
+printed =
+    row 0 0 0 0 Unchanged
+    ∷ row 1 0 0 0 Unchanged
+    ∷ row 2 0 0 0 Unchanged
+    ∷ row 3 6 0x2A 0x11 AnotherCleared
+    ∷ row 4 6 0x2A 0x12 VendorCleared
+    ∷ row 5 5 0x24 0x00 Unchanged
+    ∷ row 6 5 0x24 0x00 Registered
+    ∷ row 7 5 0x1A 0x00 Registered
+    ∷ row 8 5 0x26 0x00 Registered
+    ∷ row 9 5 0x55 0x08 Registered
+    ∷ row 10 5 0x55 0x03 Registered
+    ∷ row 11 7 0x2A 0x13 Unchanged
+    ∷ row 12 7 0x74 0x07 Unchanged
+    ∷ row 13 0 0 0 Unchanged
+    ∷ []
+
+-- the answers in the order of their numbers
+abbrev pub everyAnswer : List Answer
+everyAnswer =
+    Done
+    ∷ NotWellFormed
+    ∷ NexusAbove
+    ∷ ChangedByAnotherNexus
+    ∷ ChangedByVendorEvent
+    ∷ ProtocolNotSupported
+    ∷ PageNotSupported
+    ∷ PageLengthWrong
+    ∷ FieldWrong
+    ∷ FifthSupplementalKey
+    ∷ NoPlaceForLocal
+    ∷ KeyInstanceChanged
+    ∷ ParametersNotUsable
+    ∷ PlaceAbove
+    ∷ []

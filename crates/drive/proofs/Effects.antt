@@ -1,0 +1,257 @@
+-- What is known of a call's effect: which answer it had, what the page is that it takes, and that no array changes its size.
+-- Assumes nothing.
+use Prim.Native.Nat.{ℕ, _<_}
+use mathlib.Core.Path.{_≡_, refl, sym, ap, _∙_}
+use mathlib.Core.Bool.{Bool, true, false, not}
+use mathlib.Core.List.{List, [], _∷_, _++_}
+use borrow.Author.Tests.{leb-false}
+use lib.ListN.{length, length-set, length-map}
+use lib.Seq.{set-getD}
+use Rattle.arrays.specs.Base.{pick}
+use Rattle.arrays.proofs.Base.{cases, clash, pick-elim, pick-false}
+use Rattle.arrays.proofs.Laws.{length-mapFrom}
+use Rattle.answer.specs.Answers.{isDone, changeOf}
+use Rattle.answer.specs.declared.Answer.{Answer}
+use Rattle.answer.specs.declared.Answer.the-variants.{Done, NexusAbove, NoPlaceForLocal, KeyInstanceChanged, ParametersNotUsable}
+use Rattle.answer.specs.declared.Change.{Change}
+use Rattle.answer.specs.declared.Change.the-variants.{Unchanged, AnotherCleared, VendorCleared, Registered}
+use Rattle.answer.proofs.Numbers.{done-is}
+use Rattle.page.specs.declared.Page.{Page}
+use Rattle.device.specs.Record.{State, nexusAt, newNexus, powerOn}
+use Rattle.device.specs.Selecting.{selectedSet}
+use Rattle.device.specs.WellFormed.{wellFormed}
+use Rattle.device.specs.Updates.{withNexuses}
+use Rattle.device.specs.declared.Nexus.{Nexus}
+use Rattle.marks.specs.Marks.{changes, flagged}
+use Rattle.marks.specs.Reset.{cleared}
+use Rattle.marks.specs.declared.Actor.{Actor}
+use Rattle.marks.specs.declared.Actor.the-variants.{Nobody, Acting}
+use Rattle.places.specs.Actions.{noPlace, releases, releasedBy, taken}
+use Rattle.places.proofs.Lengths.{SameSize, size-stays, size-then, power-places, power-nexuses, acts-size, taken-size}
+use Rattle.drive.specs.declared.Command.{Command}
+use Rattle.drive.specs.Calls.{Call, powerUp, securityIn, securityOut, write, unitReset, happens, senderOf}
+use Rattle.drive.specs.Answers.{due, firstOf, pageChecked, check1, check10, instanceChanged, notUsable, heardOf, permitted, isOutPage, commandedOf, checks, recordCheck, answer, knownAnswer}
+use Rattle.drive.specs.Effects.{Effect, nothing, marks, takes, clears, releasing, restarts, doing, refusal, effectBy, effect}
+use Rattle.drive.specs.After.{changedBy, Telling, carriedOut, actorOf}
+use Rattle.drive.proofs.Checks.{all-done, passed, first-stops, first-passes}
+
+-- ---- a record known to be well formed
+
+-- check 1 finds no fault in it
+pub formed-passes : (s : State) (call : Call) → wellFormed s ≡ true → recordCheck s call ≡ Done
+formed-passes s powerUp w = refl
+formed-passes s (securityIn command) w = rw w
+formed-passes s (securityOut command page) w = rw w
+formed-passes s (write n supported) w = rw w
+formed-passes s unitReset w = rw w
+formed-passes s (happens event) w = rw w
+
+-- so its calls are answered without it
+pub known-agrees : (s : State) (call : Call) → wellFormed s ≡ true → answer s call ≡ knownAnswer s call
+unfolding answer knownAnswer
+known-agrees s call w = ap (λ (a : Answer). firstOf (a ∷ checks s call)) (formed-passes s call w)
+
+-- ---- a refusal
+
+-- a change of none is none
+pub unchanged : (s : State) (n : ℕ) → changes s n Unchanged ≡ s
+unfolding changes
+unchanged s n = ap (λ (l : List Nexus). withNexuses l s) (set-getD (s .nexuses) n newNexus)
+
+-- what a refusal does to the record is what its row says
+pub refusal-changes : (rule : Telling) (s : State) (n : ℕ) (change : Change) → carriedOut rule s (refusal (Acting n) change) ≡ changes s n change
+unfolding carriedOut changedBy
+refusal-changes rule s n Unchanged = sym (unchanged s n)
+refusal-changes rule s n AnotherCleared = refl
+refusal-changes rule s n VendorCleared = refl
+refusal-changes rule s n Registered = refl
+
+-- ---- a page that is taken
+
+-- the page check gave it and found no fault, its sender is one of the nexuses, and a LOCAL set has a place
+pub record Taken (s : State) (n : ℕ) (page : Page) : Type 0 where
+  pub bytes : List ℕ
+  pub within : n < length (s .nexuses)
+  pub read : pageChecked s n bytes .page ≡ page
+  pub found : pageChecked s n bytes .answer ≡ Done
+  pub placed : noPlace s n page ≡ false
+
+-- what is known of an effect
+abbrev pub Due : State → Effect → Type 0
+Due s nothing = Unit {0}
+Due s (marks n change) = Unit {0}
+Due s (takes n page) = Taken s n page
+Due s clears = Unit {0}
+Due s (releasing event) = Unit {0}
+Due s restarts = Unit {0}
+
+-- of a refusal nothing
+refusal-due : (s : State) (sender : Actor) (change : Change) → Due s (refusal sender change)
+refusal-due s Nobody change = tt
+refusal-due s (Acting n) Unchanged = tt
+refusal-due s (Acting n) AnotherCleared = tt
+refusal-due s (Acting n) VendorCleared = tt
+refusal-due s (Acting n) Registered = tt
+
+-- a page that is carried out has passed every check
+taken-due : (s : State) (command : Command) (page : List ℕ) → isDone (answer s (securityOut command page)) ≡ true → Taken s (command .nexus) (pageChecked s (command .nexus) page .page)
+unfolding answer checks
+taken-due s command page e =
+    let read = pageChecked s (command .nexus) page in
+    let all = all-done (recordCheck s (securityOut command page) ∷ (commandedOf s command (isOutPage (command .code)) ++ read .answer ∷ check10 s (command .nexus) (read .page) ∷ [])) e in
+    let rest = all .1 .1 .1 .1 .1 .1 in
+    record {
+      bytes = page;
+      within = leb-false (length (s .nexuses)) (command .nexus) (passed _ NexusAbove refl (all .1 .0));
+      read = refl;
+      found = done-is _ (rest .0);
+      placed = passed _ NoPlaceForLocal refl (rest .1 .0);
+    }
+
+-- a call that is carried out
+doing-due : (s : State) (call : Call) → isDone (answer s call) ≡ true → Due s (doing s call)
+doing-due s powerUp e = tt
+doing-due s (securityIn command) e = tt
+doing-due s (securityOut command page) e = taken-due s command page e
+doing-due s (write n supported) e = tt
+doing-due s unitReset e = tt
+doing-due s (happens event) e = tt
+
+-- any call
+pub effect-due : (s : State) (call : Call) → Due s (effect s call)
+unfolding effectBy
+effect-due s call = pick-elim (Due s) (isDone (answer s call)) (doing-due s call) (λ f. refusal-due s (senderOf call) (changeOf (answer s call)))
+
+-- ---- a page that was taken was answered 0
+
+abbrev isTaken : Effect → Bool
+isTaken nothing = false
+isTaken (marks n change) = false
+isTaken (takes n page) = true
+isTaken clears = false
+isTaken (releasing event) = false
+isTaken restarts = false
+
+-- no refusal takes a page
+refusal-takes : (sender : Actor) (change : Change) → isTaken (refusal sender change) ≡ false
+refusal-takes Nobody change = refl
+refusal-takes (Acting n) Unchanged = refl
+refusal-takes (Acting n) AnotherCleared = refl
+refusal-takes (Acting n) VendorCleared = refl
+refusal-takes (Acting n) Registered = refl
+
+pub taken-answered : (s : State) (call : Call) (n : ℕ) (page : Page) → effect s call ≡ takes n page → answer s call ≡ Done
+unfolding effectBy
+taken-answered s call n page e =
+    cases (isDone (answer s call))
+    (done-is (answer s call))
+    (λ f. clash (ap isTaken e) (ap isTaken (pick-false (isDone (answer s call)) (doing s call) _ f) ∙ refusal-takes (senderOf call) (changeOf (answer s call))))
+
+-- ---- power-on, whatever the record
+
+abbrev pub isRestart : Effect → Bool
+isRestart nothing = false
+isRestart (marks n change) = false
+isRestart (takes n page) = false
+isRestart clears = false
+isRestart (releasing event) = false
+isRestart restarts = true
+
+pub restart-is : (e : Effect) → isRestart e ≡ true → e ≡ restarts
+restart-is nothing t = clash t refl
+restart-is (marks n change) t = clash t refl
+restart-is (takes n page) t = clash t refl
+restart-is clears t = clash t refl
+restart-is (releasing event) t = clash t refl
+restart-is restarts t = refl
+
+-- no refusal is
+refusal-restarts : (sender : Actor) (change : Change) → isRestart (refusal sender change) ≡ false
+refusal-restarts Nobody change = refl
+refusal-restarts (Acting n) Unchanged = refl
+refusal-restarts (Acting n) AnotherCleared = refl
+refusal-restarts (Acting n) VendorCleared = refl
+refusal-restarts (Acting n) Registered = refl
+
+-- any other call starts nothing anew
+other-restarts : (s : State) (call : Call) → isRestart (doing s call) ≡ false → isRestart (effect s call) ≡ false
+unfolding effectBy
+other-restarts s call e = pick-elim (λ x. isRestart x ≡ false) (isDone (answer s call)) (λ t. e) (λ f. refusal-restarts (senderOf call) (changeOf (answer s call)))
+
+-- whether a call is power-on does not depend on the record
+pub restarts-anyway : (s t : State) (call : Call) → isRestart (effect s call) ≡ isRestart (effect t call)
+unfolding effectBy answer checks
+restarts-anyway s t powerUp = refl
+restarts-anyway s t (securityIn command) = other-restarts s (securityIn command) refl ∙ sym (other-restarts t (securityIn command) refl)
+restarts-anyway s t (securityOut command page) = other-restarts s (securityOut command page) refl ∙ sym (other-restarts t (securityOut command page) refl)
+restarts-anyway s t (write n supported) = other-restarts s (write n supported) refl ∙ sym (other-restarts t (write n supported) refl)
+restarts-anyway s t unitReset = other-restarts s unitReset refl ∙ sym (other-restarts t unitReset refl)
+restarts-anyway s t (happens event) = other-restarts s (happens event) refl ∙ sym (other-restarts t (happens event) refl)
+
+-- ---- a write
+
+-- checks 11 and 12 change nothing
+permitted-nothing : (n : ℕ) (a b : Bool) → let x = firstOf (due a KeyInstanceChanged ∷ due b ParametersNotUsable ∷ []) in pick (isDone x) nothing (refusal (Acting n) (changeOf x)) ≡ nothing
+permitted-nothing n true b = refl
+permitted-nothing n false true = refl
+permitted-nothing n false false = refl
+
+module _ (s : State) (n : ℕ) (supported : Bool) where
+  abbrev first : Answer
+  first = firstOf (check1 s ∷ heardOf s n)
+
+  -- a write that passes checks 1 to 4 is answered by its own
+  pub own-answer : isDone first ≡ true → answer s (write n supported) ≡ firstOf (permitted (nexusAt s n) (selectedSet s n) supported)
+  unfolding answer checks
+  own-answer = first-passes (check1 s ∷ heardOf s n) (permitted (nexusAt s n) (selectedSet s n) supported)
+
+  -- another by checks 1 to 4
+  first-answer : isDone first ≡ false → answer s (write n supported) ≡ first
+  unfolding answer checks
+  first-answer = first-stops (check1 s ∷ heardOf s n) (permitted (nexusAt s n) (selectedSet s n) supported)
+
+  -- and they alone decide what it does
+  pub write-effect : effect s (write n supported) ≡ refusal (Acting n) (changeOf first)
+  unfolding effectBy
+  write-effect =
+      cases (isDone first)
+      (λ t.
+      ap (λ a. pick (isDone a) nothing (refusal (Acting n) (changeOf a))) (own-answer t)
+      ∙ permitted-nothing n (instanceChanged (nexusAt s n) (selectedSet s n)) (notUsable (selectedSet s n) supported)
+      ∙ ap (λ a. refusal (Acting n) (changeOf a)) (sym (done-is first t)))
+      (λ f. ap (λ a. pick (isDone a) nothing (refusal (Acting n) (changeOf a))) (first-answer f) ∙ pick-false _ _ _ f)
+
+-- ---- no effect changes the number of places or of nexuses
+
+-- other nexuses, as many
+nexuses-size : (s x : State) → length (x .nexuses) ≡ length (s .nexuses) → x .sets ≡ s .sets → SameSize s x
+nexuses-size s x n p = record { nexuses = n; places = ap length p }
+
+-- marks changed
+changes-size : (s : State) (n : ℕ) (change : Change) → SameSize s (changes s n change)
+unfolding changes
+changes-size s n change = nexuses-size s _ (length-set (s .nexuses) n _) refl
+
+-- flags
+flagged-size : (differ : ℕ → Bool) (actor : Actor) (s x : State) → SameSize x (flagged differ actor s x)
+unfolding flagged
+flagged-size differ actor s x = nexuses-size x _ (length-mapFrom _ 0 (x .nexuses)) refl
+
+-- a reset
+cleared-size : (s : State) → SameSize s (cleared s)
+unfolding cleared
+cleared-size s = nexuses-size s _ (length-map (s .nexuses) _) refl
+
+-- power-on
+power-size : (s : State) → SameSize s (powerOn (length (s .nexuses)) (length (s .sets)))
+power-size s = record { places = power-places (length (s .nexuses)) (length (s .sets)); nexuses = power-nexuses (length (s .nexuses)) (length (s .sets)) }
+
+-- any effect
+pub effect-size : (rule : Telling) (s : State) (e : Effect) → SameSize s (carriedOut rule s e)
+unfolding carriedOut changedBy
+effect-size rule s nothing = size-stays s
+effect-size rule s (marks n change) = changes-size s n change
+effect-size rule s (takes n page) = size-then (taken-size s n page) (size-then (changes-size (taken s n page) n Registered) (flagged-size _ _ s (changes (taken s n page) n Registered)))
+effect-size rule s clears = cleared-size s
+effect-size rule s (releasing event) = size-then (acts-size s (releases (releasedBy event) (s .sets))) (flagged-size _ (actorOf event) s _)
+effect-size rule s restarts = power-size s

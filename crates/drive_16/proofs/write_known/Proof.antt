@@ -1,0 +1,93 @@
+use borrow.Author.Needs.{needs}
+use mathlib.Core.Path.{_≡_, refl, sym, ap, _∙_}
+use mathlib.Core.Bool.{Bool}
+use mathlib.Core.List.{List, _++_}
+use Prim.Native.Nat.{ℕ}
+use lib.ListN.{length}
+use Rattle.arrays.proofs.Laws.{sized-field}
+use Rattle.answer.specs.declared.Answer.{Answer}
+use Rattle.device.specs.Record.{State, setAt, nexusAt}
+use Rattle.device.specs.Selecting.{selected, selectedSet}
+use Rattle.device.specs.declared.Nexus.{Nexus}
+use Rattle.device.proofs.Selecting.{found}
+use Rattle.sizes_16.specs.Sizes.{nexusCount}
+use Rattle.device_16.specs.Model.{state}
+use Rattle.drive.specs.Calls.{write}
+use Rattle.drive.specs.Answers.{firstOf, heardOf, permitted, checks, knownAnswer}
+use Rattle.drive.proofs.Checks.{first-stops, first-passes, told-fault, told-done, fault-told, done-told}
+use Rattle.drive_16.specs.Outcomes.{writeOutcomeBy}
+use Rattle.drive_16.proofs.Outcomes.{write-refused, write-done}
+use Rattle.drive_16.proofs.write_known.Statement.{statement}
+use Rattle.drive_16.proofs.write_known.Tie as tie
+
+-- what the code gives for checks 2 to 4, and the others
+abbrev front : tie.Start → List Answer
+front s = heardOf (state (s .args .d)) (s .args .n)
+
+abbrev rest : tie.Start → List Answer
+rest s = permitted (nexusAt (state (s .args .d)) (s .args .n)) (selectedSet (state (s .args .d)) (s .args .n)) (s .args .supported)
+
+abbrev given : tie.Start → Answer
+given s = knownAnswer (state (s .args .d)) (write (s .args .n) (s .args .supported))
+
+whole : (s : tie.Start) → given s ≡ firstOf (front s ++ rest s)
+unfolding knownAnswer checks
+whole s = refl
+
+heard-is : (c : tie.After-hear) → c .hear .result ≡ firstOf (front (c .before .before .before))
+heard-is c =
+    let d = c .before .before .before .args .d in
+    let l : length (d .nexuses) ≡ nexusCount = search (needs, sized-field) in
+    simp (l, ← c .before .before .nexus-at .ensures) (c .hear .ensures)
+
+-- where they find a fault, theirs is the answer
+heard-first : (c : tie.Then1) → c .before .before .hear .result ≡ given (c .before .before .before .before .before)
+heard-first c =
+    let h = heard-is (c .before .before) in
+    let s = c .before .before .before .before .before in
+    h ∙ sym (whole s ∙ first-stops (front s) (rest s) (told-fault h (c .before .is-done .ensures) (c .if1 .taken)))
+
+-- checks 11 and 12 of the nexus and the set that the code found
+checked : (s : State) (n place : ℕ) (supported : Bool) (nexus : Nexus) (a : Answer) → nexus ≡ nexusAt s n → place ≡ selected s n
+    → a ≡ firstOf (permitted nexus (setAt s place) supported) → a ≡ firstOf (permitted (nexusAt s n) (selectedSet s n) supported)
+checked s n place supported nexus a e f h = rw (e, f) at h
+
+selects : (c : tie.After-place-of) → let a = c .before .before .before .before .before .before .before .args in c .place-of .result ≡ selected (state (a .d)) (a .n)
+selects c =
+    let a = c .before .before .before .before .before .before .before .args in
+    found (state (a .d)) (a .n) _ _ (c .before .before .before .before .before .before .nexus-at .ensures) (c .place-of .ensures .0)
+
+-- where they find none, what checks 11 and 12 answered is
+answered : (c : tie.After-check-write) → c .check-write .result ≡ given (c .before .before .before .before .before .before .before .before .before)
+answered c =
+    let h = c .before .before .before .before .before .before in
+    let s = h .before .before .before in
+    let a = s .args in
+    checked (state (a .d)) (a .n) _ (a .supported) _ _ (h .before .before .nexus-at .ensures) (selects (c .before .before)) (c .check-write .ensures)
+    ∙ sym (whole s ∙ first-passes (front s) (rest s) (told-done (heard-is h) (c .before .before .before .before .before .is-done .ensures) (c .before .before .before .before .if1 .left)))
+
+pub write-known-spec : {M : Type 1} → statement M
+write-known-spec =
+    tie.close
+    (tie.spec
+    (λ c κs. search needs)
+    (λ c κs. search needs)
+    (λ c κs. search needs)
+    (λ c κs. search needs)
+    (λ c. let s = c .before .before .before .before .before .before in
+    let a = s .args in
+    c .refuse-write .ensures ∙ write-refused (state (a .d)) (a .n) (a .supported) _ (fault-told (c .before .before .is-done .ensures) (c .before .if1 .taken)) ∙ ap (writeOutcomeBy (state (a .d)) (a .n) (a .supported)) (heard-first (c .before)))
+    (λ c κs. search needs)
+    (λ c. search needs)
+    (λ c. search needs)
+    (λ c κs. search needs)
+    (λ c κs. search needs)
+    (λ c κs. search needs)
+    (λ c. let checks = c .before .before .before in
+    let a = checks .before .before .before .before .before .before .before .before .before .args in
+    c .refuse-write2 .ensures ∙ write-refused (state (a .d)) (a .n) (a .supported) _ (fault-told (c .before .before .is-done2 .ensures) (c .before .if2 .taken)) ∙ ap (writeOutcomeBy (state (a .d)) (a .n) (a .supported)) (answered checks))
+    (λ c κs. search needs)
+    (λ c. let checks = c .before .before .before in
+    let a = checks .before .before .before .before .before .before .before .before .before .args in
+    simp (c .decide .ensures, selects (checks .before .before))
+    (write-done (state (a .d)) (a .n) (a .supported) _ (done-told (c .before .before .is-done2 .ensures) (c .before .if2 .left)) ∙ ap (writeOutcomeBy (state (a .d)) (a .n) (a .supported)) (answered checks))))

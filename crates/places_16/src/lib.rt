@@ -1,0 +1,254 @@
+// Establishing, releasing, selecting: what a page or an event does to the places.
+use device::Found;
+use device::Nexus;
+use device::Set;
+use device_16::Device;
+use page::Fields;
+use page::Page;
+use places::Event;
+use places::Room;
+use sizes_16::NEXUSES;
+use sizes_16::PLACES;
+ghost use Prim.Native.Nat.{_<_};
+ghost use mathlib.Core.Path.{_≡_};
+ghost use Rattle.arrays.specs.Arrays.{mapFrom, each, find};
+ghost use Rattle.sizes_16.specs.Sizes.{placeCount};
+ghost use Rattle.device_16.specs.Model.{state, device};
+ghost use Rattle.device.specs.declared.Found.{Found};
+ghost use Rattle.places_16.specs.Taking.{roomAsked, actionsIn, takenIn};
+ghost use Rattle.places.specs.Actions.{sharedActions, release, establish, freed, act, acts, spared, releases, ownPlace, releaseOwn, emptyLocal, unlockedLocal, room, establishIn, settled, supplemented, releasedBy, releaseStep};
+
+const LOCAL: u8 = 1;
+
+const ALL: u8 = 2;
+
+fn free_all(d: Device, place: usize) -> [Nexus; NEXUSES]
+    ensures { λ r. ⌜ r ≡ mapFrom (freed (state d) place) 0 (d .nexuses) ⌝ }
+{
+    let sets = d.sets;
+    let mut out = d.nexuses;
+    for n in 0..NEXUSES {
+        let nexus = out[n];
+        out[n] = places::free(nexus, device_16::place_of(nexus, n, sets) == place);
+    }
+    out
+}
+
+// One action: a place takes new contents under a newly drawn number, and whoever used what it held becomes PUBLIC.
+fn act(d: Device, place: usize, contents: Set) -> Device
+    ensures { λ r. ⌜ r ≡ device (act (state d) (record { place = place; contents = contents })) ⌝ }
+{
+    let number = places::draw(d.counter);
+    let mut set = contents;
+    set.number = number;
+    let mut out = d;
+    let nexuses = free_all(out, place);
+    out.counter = number;
+    out.nexuses = nexuses;
+    if place < PLACES {
+        out.sets[place] = set;
+    }
+    out
+}
+
+fn release(d: Device, place: usize) -> Device
+    ensures { λ r. ⌜ r ≡ device (act (state d) (release place)) ⌝ }
+{
+    act(d, place, Set::DEFAULT)
+}
+
+fn establish(d: Device, place: usize, owner: u8, scope: u8, fields: Fields) -> Device
+    ensures { λ r. ⌜ r ≡ device (act (state d) (establish place owner scope fields)) ⌝ }
+{
+    act(d, place, Set::established(owner, scope, 0, fields))
+}
+
+// The nexus's own LOCAL place, if any.
+pub fn own_place(d: Device, n: u8) -> Found
+    ensures { λ r. ⌜ r ≡ ownPlace (state d) n ⌝ }
+{
+    let nexus = device_16::nexus_at(d, n as usize);
+    if nexus.scope != LOCAL {
+        return Found::Nowhere;
+    }
+    let sets = d.sets;
+    device_16::owned_place(sets, n as usize)
+}
+
+fn release_own(d: Device, n: u8) -> Device
+    ensures { λ r. ⌜ r ≡ device (acts (state d) (releaseOwn (state d) n)) ⌝ }
+{
+    match own_place(d, n) {
+        Found::At(place) => release(d, place),
+        Found::Nowhere => d,
+    }
+}
+
+// The lowest empty place for a LOCAL set.
+fn lowest_empty(sets: [Set; PLACES]) -> Found
+    ensures { λ r. ⌜ r ≡ find Found.At Found.Nowhere emptyLocal sets ⌝ }
+{
+    for place in 0..PLACES {
+        let set = sets[place];
+        if places::is_empty_local(set, place) {
+            return Found::At(place);
+        }
+    }
+    Found::Nowhere
+}
+
+// The owner of a place for LOCAL sets has lock 0.
+fn is_unlocked_local(d: Device, set: Set, place: usize) -> bool
+    ensures { λ r. ⌜ r ≡ unlockedLocal (state d) place set ⌝ }
+{
+    let owner = device_16::nexus_at(d, set.owner as usize);
+    (place != 0) & !owner.lock
+}
+
+// The lowest place for LOCAL sets whose owner has lock 0.
+fn lowest_unlocked(d: Device) -> Found
+    ensures { λ r. ⌜ r ≡ find Found.At Found.Nowhere (unlockedLocal (state d)) (d .sets) ⌝ }
+{
+    let sets = d.sets;
+    for place in 0..PLACES {
+        let set = sets[place];
+        if is_unlocked_local(d, set, place) {
+            return Found::At(place);
+        }
+    }
+    Found::Nowhere
+}
+
+// The place of a LOCAL page: its present place, else the lowest empty one, else the lowest whose owner has lock 0.
+pub fn room_for(d: Device, n: u8) -> Room
+    ensures { λ r. ⌜ r ≡ room (state d) n ⌝ }
+{
+    let sets = d.sets;
+    match own_place(d, n) {
+        Found::At(place) => Room::Free(place),
+        Found::Nowhere => places::free_at(lowest_empty(sets), places::taken_at(lowest_unlocked(d))),
+    }
+}
+
+// The same for a page that needs a place; for any other, none.
+pub fn room_asked(d: Device, n: u8, page: Page) -> Room
+    ensures { λ r. ⌜ r ≡ roomAsked (state d) n page ⌝ }
+{
+    if places::needs_place(page) {
+        return room_for(d, n);
+    }
+    Room::NoRoom
+}
+
+// A LOCAL set established in its place.
+fn establish_in(d: Device, n: u8, fields: Fields, room: Room) -> Device
+    ensures { λ r. ⌜ r ≡ device (acts (state d) (establishIn room n fields)) ⌝ }
+{
+    match room {
+        Room::Free(place) => establish(d, place, n, LOCAL, fields),
+        Room::Taken(place) => establish(release(d, place), place, n, LOCAL, fields),
+        Room::NoRoom => d,
+    }
+}
+
+// What an accepted page that is PUBLIC or ALL does to the places.
+fn act_shared(d: Device, n: u8, page: Page) -> Device
+    ensures { λ r. ⌜ r ≡ device (acts (state d) (sharedActions (state d) n page)) ⌝ }
+{
+    let released = release_own(d, n);
+    if page.scope != ALL {
+        return released;
+    }
+    let fields = page.fields;
+    establish(released, 0, n, ALL, fields)
+}
+
+// The sender settled, in place.
+fn settle(d: Device, n: u8, page: Page) -> Device
+    ensures { λ r. ⌜ r ≡ device (settled (state d) n page) ⌝ }
+{
+    let at = n as usize;
+    if NEXUSES <= at {
+        return d;
+    }
+    let sets = d.sets;
+    let mut nexuses = d.nexuses;
+    let nexus = nexuses[at];
+    let mut scoped = nexus;
+    scoped.scope = page.scope;
+    let place = device_16::place_of(scoped, at, sets);
+    let numbers = device_16::numbers(sets);
+    nexuses[at] = places::settle_nexus(nexus, page, numbers[place]);
+    let mut out = d;
+    out.nexuses = nexuses;
+    out
+}
+
+fn supplement(d: Device, n: u8, page: Page) -> Device
+    ensures { λ r. ⌜ r ≡ device (supplemented (state d) n page) ⌝ }
+{
+    let place = device_16::selected(d, n as usize);
+    let key = page.fields.key;
+    let mut set = d.sets[place];
+    let keys = set.supplemental;
+    let more = places::append(keys, key);
+    set.supplemental = more;
+    let mut out = d;
+    out.sets[place] = set;
+    out
+}
+
+// What an accepted page that isn't supplemental does to the places, where a LOCAL set's place is known.
+fn act_page(d: Device, n: u8, page: Page, room: Room) -> Device
+    ensures { λ r. ⌜ r ≡ device (acts (state d) (actionsIn (state d) n page room)) ⌝ }
+{
+    if page.scope == LOCAL {
+        let fields = page.fields;
+        return establish_in(d, n, fields, room);
+    }
+    act_shared(d, n, page)
+}
+
+// An accepted page taken, where a LOCAL set's place is known: its actions, then what it leaves the sender or its set with.
+pub fn take_page(d: Device, n: u8, page: Page, room: Room) -> Device
+    ensures { λ r. ⌜ r ≡ device (takenIn (state d) n page room) ⌝ }
+{
+    if page.supplemental {
+        return supplement(d, n, page);
+    }
+    settle(act_page(d, n, page, room), n, page)
+}
+
+// No place is due.
+pub fn none_due(sets: [Set; PLACES], event: Event) -> bool
+    ensures { λ r. ⌜ r ≡ each (spared (releasedBy event)) sets ⌝ }
+{
+    let mut none = true;
+    for place in 0..PLACES {
+        let set = sets[place];
+        none = none & !places::is_due(event, place, set);
+    }
+    none
+}
+
+fn release_step(d: Device, event: Event, place: usize) -> Device
+    requires { ⌜ place < placeCount ⌝ }
+    ensures { λ r. ⌜ r ≡ device (releaseStep (releasedBy event) place (state d)) ⌝ }
+{
+    let set = d.sets[place];
+    if places::is_due(event, place, set) {
+        return release(d, place);
+    }
+    d
+}
+
+// What an event releases, places in rising order.
+pub fn release_by(d: Device, event: Event) -> Device
+    ensures { λ r. ⌜ r ≡ device (acts (state d) (releases (releasedBy event) (d .sets))) ⌝ }
+{
+    let mut out = d;
+    for place in 0..PLACES {
+        out = release_step(out, event, place);
+    }
+    out
+}

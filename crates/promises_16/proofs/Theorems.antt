@@ -1,0 +1,50 @@
+-- This model's instance of what is proved once over the sizes.
+-- Assumes nothing.
+use Prim.Native.Nat.{ℕ, _<_, _^_}
+use mathlib.Core.Bool.{Bool, true}
+use mathlib.Core.List.{List, [], _∷_}
+use mathlib.Core.Path.{_≡_, refl, ap, subst, _∙_}
+use lib.Dec.{lit<}
+use Rattle.page.specs.Check.{checked}
+use Rattle.device.specs.Record.{State, nexusAt, powerOn}
+use Rattle.device.specs.Selecting.{selected, selectedSet}
+use Rattle.device.specs.WellFormed.{wellFormed}
+use Rattle.drive.specs.Calls.{Call}
+use Rattle.drive.specs.Answers.{pageChecked}
+use Rattle.drive.specs.Runs.{runFrom, run}
+use Rattle.kept.proofs.Runs.{since-power-on}
+use Rattle.history.specs.History.{isHeard, isStopped, LatestPage, leftBy, ranFrom, touched, drew}
+use Rattle.history.proofs.Demand.{demand3-run}
+use Rattle.sizes_16.specs.Sizes.{nexusCount, placeCount}
+use Rattle.device_16.specs.Model.{state, device}
+use Rattle.device_16.specs.declared.Device.{Device}
+use Rattle.drive_16.specs.Outcomes.{outcomeBy, outcome, poweredOn}
+use Rattle.promises_16.specs.Runs.{leaves, sincePowerOn}
+
+-- it is the record over lists
+pub leaves-run : (d : Device) (calls : List Call) → state (leaves d calls) ≡ runFrom (state d) calls
+unfolding leaves runFrom outcomeBy
+leaves-run d [] = refl
+leaves-run d (call ∷ later) = leaves-run (outcome (state d) call .device) later
+
+-- so since power-on
+pub runs-so : (calls : List Call) → state (sincePowerOn calls) ≡ run nexusCount placeCount calls
+runs-so calls = leaves-run (poweredOn .device) calls
+
+-- since power-on every record of this model is well formed
+pub always-well-formed : (calls : List Call) → wellFormed (state (sincePowerOn calls)) ≡ true
+always-well-formed calls = ap wellFormed (runs-so calls) ∙ since-power-on nexusCount placeCount (lit< tt) (lit< tt) calls
+
+-- the page rules are the page's alone: this model's page check is `checked`, of the nexus's scope, its set's mode and its count of keys
+pub page-rules : (d : Device) (n : ℕ) (page : List ℕ) → pageChecked (state d) n page ≡ checked page (nexusAt (state d) n .scope) (selectedSet (state d) n .fields .decryption) (selectedSet (state d) n .supplemental .count)
+page-rules d n page = refl
+
+-- demand 3 of this model, of the run itself
+pub demand3-here : (calls : List Call) → drew nexusCount placeCount calls < 2 ^ 32
+    → (n : ℕ) → n < nexusCount → (supported : Bool) → isHeard (state (sincePowerOn calls)) n ≡ true → nexusAt (state (sincePowerOn calls)) n .lock ≡ true
+    → (x : LatestPage n (powerOn nexusCount placeCount) calls)
+    × (isStopped (state (sincePowerOn calls)) n supported ≡ touched (selected (leftBy x) n) (ranFrom (leftBy x) (x .later)))
+demand3-here calls fits n here supported heard locked =
+    let e = runs-so calls in
+    let r = demand3-run nexusCount placeCount (lit< tt) calls fits n here supported (subst (λ (s : State). isHeard s n ≡ true) e heard) (subst (λ (s : State). nexusAt s n .lock ≡ true) e locked) in
+    (r .0, ap (λ (s : State). isStopped s n supported) e ∙ r .1)

@@ -1,0 +1,15 @@
+-- Sequences of this model's calls.
+use mathlib.Core.List.{List, [], _∷_}
+use Rattle.drive.specs.Calls.{Call}
+use Rattle.device_16.specs.Model.{state}
+use Rattle.device_16.specs.declared.Device.{Device}
+use Rattle.drive_16.specs.Outcomes.{outcome, poweredOn}
+
+-- the device that this model's calls leave, one after another, as they promise it
+unfoldable pub leaves : Device → List Call → Device
+leaves d [] = d
+leaves d (call ∷ later) = leaves (outcome (state d) call .device) later
+
+-- since power-on
+abbrev pub sincePowerOn : List Call → Device
+sincePowerOn calls = leaves (poweredOn .device) calls

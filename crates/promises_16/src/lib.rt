@@ -1,0 +1,1 @@
+// What is proved of this model beyond the promises of single functions: no code.
