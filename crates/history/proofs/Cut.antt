@@ -10,9 +10,9 @@ use Rattle.arrays.proofs.Base.{cases}
 use Rattle.device.specs.Record.{State, powerOn}
 use Rattle.places.proofs.Lengths.{SameSize, size-stays, size-then, power-places, power-nexuses}
 use Rattle.drive.specs.Calls.{Call}
-use Rattle.drive.specs.Effects.{Effect, nothing, effect}
+use Rattle.drive.specs.Effects.{Effect, effect}
 use Rattle.drive.specs.After.{Telling, carriedOut, byNumber, actions, after}
-use Rattle.drive.specs.Runs.{runFrom, draws}
+use Rattle.drive.specs.Runs.{runFrom}
 use Rattle.drive.proofs.Effects.{isRestart, restarts-anyway, effect-size}
 use Rattle.history.specs.History.{bareSet, bareNexus, Bare, bare, fullSet, fullNexus, full, byAction, reads, readTo, drewOf, drewFrom, drew}
 use Rattle.history.proofs.Numbers.{anew}

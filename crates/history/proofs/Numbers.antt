@@ -20,7 +20,7 @@ use Rattle.device.proofs.Selecting.{selected-within}
 use Rattle.marks.specs.Marks.{differs, flagged}
 use Rattle.places.specs.Actions.{Action, drawn, act, acts}
 use Rattle.places.proofs.Lengths.{act-size}
-use Rattle.drive.specs.Effects.{Effect, nothing, takes}
+use Rattle.drive.specs.Effects.{Effect}
 use Rattle.drive.specs.After.{actionsOf, changedBy, Telling, carriedOut}
 use Rattle.drive.proofs.Effects.{isRestart, restart-is}
 use Rattle.history.specs.History.{hits, numberAt, Low}

@@ -10,7 +10,7 @@ use borrow.Author.Tests.{ltb-true, ltb-false}
 use lib.Dec.{ltb}
 use lib.ListN.{length, drop, length-drop}
 use Rattle.arrays.proofs.Base.{cases, pick-map}
-use Rattle.wire.specs.Rules.{Rule, rule, breach, BreaksAt}
+use Rattle.wire.specs.Rules.{Rule, breach, BreaksAt}
 use Rattle.wire.proofs.Rules.{Under, Sorted, low, high, lowest, breaks, sorted-from, sorted-append}
 use Rattle.kad.specs.Kad.{noKads, withData}
 use Rattle.kad.specs.Reading.{headSize, dataOf, nextOf, descriptorRules, listed, readKads}

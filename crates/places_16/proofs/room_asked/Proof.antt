@@ -1,5 +1,4 @@
 use borrow.Author.Needs.{needs}
-use mathlib.Core.Path.{sym, _∙_}
 use Rattle.places_16.proofs.room_asked.Statement.{statement}
 use Rattle.places_16.proofs.room_asked.Tie as tie
 
