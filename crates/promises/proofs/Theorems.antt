@@ -5,7 +5,7 @@ pub use Rattle.answer.proofs.Table.{table as answers-as-printed}
 -- Every call has an answer of that table with its row's sense, and a refused one writes no byte.
 pub use Rattle.drive.proofs.Refusals.{every-call-answers}
 -- A refusal changes what its row says of its sender's marks, and nothing else.
-pub use Rattle.drive.proofs.Refusals.{refusals-change}
+pub use Rattle.drive.proofs.Refusals.{refusals-change, refusals-keep}
 -- On a well-formed record the part of a call after check 1 answers as the call does.
 pub use Rattle.drive.proofs.Effects.{known-agrees}
 -- Key-associated data written and read back are the same; a list that is accepted, read and written again, has the same bytes.
