@@ -1,8 +1,8 @@
 -- Laws of an answer's number.
 -- Assumes nothing.
-use mathlib.Core.Path.{_≡_, refl, sym}
+use mathlib.Core.Path.{_≡_, refl, sym, ap, _∙_}
 use mathlib.Core.Bool.{true, true≢false}
-use Rattle.answer.specs.Answers.{isDone}
+use Rattle.answer.specs.Answers.{numberOf, isDone}
 use Rattle.answer.specs.declared.Answer.{Answer}
 use Rattle.answer.specs.declared.Answer.the-variants.{Done, NotWellFormed, NexusAbove, ChangedByAnotherNexus, ChangedByVendorEvent, ProtocolNotSupported, PageNotSupported, PageLengthWrong, FieldWrong, FifthSupplementalKey, NoPlaceForLocal, KeyInstanceChanged, ParametersNotUsable, PlaceAbove}
 
@@ -22,3 +22,7 @@ done-is NoPlaceForLocal e = absurd (true≢false (sym e))
 done-is KeyInstanceChanged e = absurd (true≢false (sym e))
 done-is ParametersNotUsable e = absurd (true≢false (sym e))
 done-is PlaceAbove e = absurd (true≢false (sym e))
+
+-- answers with different numbers differ
+pub differ : {C : Type 0} {a : Answer} (x y : Answer) → (numberOf x ≡ numberOf y → ⊥) → a ≡ x → a ≡ y → C
+differ x y n d e = absurd (n (ap numberOf (sym d ∙ e)))

@@ -12,9 +12,9 @@ use borrow.Author.Tests.{eqb-true, eqb-false, eq-eqb, ltb-true, ltb-false}
 use lib.Dec.{eqb, ltb}
 use lib.ListN.{length, getD, set, drop, length-map, List·getD-map}
 use lib.Seq.{sets, getD-set-same, getD-set-other, set-out, getD-drop, drop-drop, drop-set-lt}
-use Rattle.arrays.specs.Base.{pick}
+use Rattle.arrays.specs.Base.{if_then_else_}
 use Rattle.arrays.specs.Arrays.{mapFrom, foldFrom, each, all, find}
-use Rattle.arrays.proofs.Base.{cases, and-left, and-right, pick-elim, pick-true, pick-false}
+use Rattle.arrays.proofs.Base.{cases, and-left, and-right, if-elim, if-true, if-false}
 use Rattle.arrays.proofs.Loops.{mapFrom-map}
 
 module _ {A : Type 0} (p : ℕ → A → Bool) (d : A) where
@@ -43,10 +43,10 @@ module _ {A : Type 0} (p : ℕ → A → Bool) (d : A) where
 
 module _ {A R : Type 0} (at : ℕ → R) (none : R) (p : ℕ → A → Bool) (d : A) (P : R → Type 0) where
   -- from any element on
-  find-from : (xs : List A) (b : ℕ) → ((k : ℕ) → k < length xs → p (b + k) (getD xs k d) ≡ true → P (at (b + k))) → P none → P (foldFrom (λ k x r. pick (p k x) (at k) r) none b xs)
+  find-from : (xs : List A) (b : ℕ) → ((k : ℕ) → k < length xs → p (b + k) (getD xs k d) ≡ true → P (at (b + k))) → P none → P (foldFrom (λ k x r. if p k x then at k else r) none b xs)
   find-from [] b f n = n
   find-from (x ∷ xs) b f n =
-      pick-elim P (p b x) (rw add-zero at (f zero (omega arith)))
+      if-elim P (p b x) (rw add-zero at (f zero (omega arith)))
       (λ e. find-from xs (suc b) (λ k h. rw (suc-add b k, ← add-suc b k) (f (suc k) (suc-le-suc h))) n)
 
   -- what holds of none, and of at k where k is in range and passes, holds of what is found
@@ -106,7 +106,7 @@ module _ {A : Type 0} (p : A → Bool) where
   all-append (x ∷ xs) ys = rw (all-cons x (xs ++ ys), all-append xs ys, all-cons x xs) (sym (and-assoc (p x) (all p xs) (all p ys)))
 
 -- the element at an index once another is stored
-pub getD-set : {A : Type 0} (l : List A) (q p : ℕ) (v d : A) → getD (set l q v) p d ≡ pick (eqb p q && ltb q (length l)) v (getD l p d)
+pub getD-set : {A : Type 0} (l : List A) (q p : ℕ) (v d : A) → getD (set l q v) p d ≡ if eqb p q && ltb q (length l) then v else getD l p d
 getD-set l q p v d =
     cases (eqb p q)
     (λ e. cases (ltb q (length l))
@@ -182,19 +182,19 @@ same-length r l m e = sym (length-map l r) ∙ ap length e ∙ length-map m r
 -- a search by a test of the element alone
 module _ {A R : Type 0} (at : ℕ → R) (none : R) (p : A → Bool) where
   abbrev from : ℕ → List A → R
-  from = foldFrom (λ k x r. pick (p x) (at k) r) none
+  from = foldFrom (λ k x r. if p x then at k else r) none
 
   -- from any element on
   set-from : (l : List A) (k q : ℕ) (v : A) → p v ≡ false → (from k l ≡ at (k + q) → ⊥) → from k (set l q v) ≡ from k l
   set-from [] k q v e ne = refl
   set-from (x ∷ l) k zero v e ne =
       cases (p x)
-      (λ t. absurd (ne (rw add-zero (pick-true (p x) (at k) _ t))))
-      (λ t. pick-false (p v) (at k) _ e ∙ sym (pick-false (p x) (at k) _ t))
+      (λ t. absurd (ne (rw add-zero (if-true (p x) (at k) _ t))))
+      (λ t. if-false (p v) (at k) _ e ∙ sym (if-false (p x) (at k) _ t))
   set-from (x ∷ l) k (suc q) v e ne =
       cases (p x)
-      (λ t. pick-true (p x) (at k) _ t ∙ sym (pick-true (p x) (at k) _ t))
-      (λ t. ap (λ (r : R). pick (p x) (at k) r) (set-from l (suc k) q v e (λ y. ne (pick-false (p x) (at k) _ t ∙ rw (add-suc k q, ← suc-add k q) y))))
+      (λ t. if-true (p x) (at k) _ t ∙ sym (if-true (p x) (at k) _ t))
+      (λ t. ap (λ (r : R). if p x then at k else r) (set-from l (suc k) q v e (λ y. ne (if-false (p x) (at k) _ t ∙ rw (add-suc k q, ← suc-add k q) y))))
 
   -- it is blind to an index that it did not stop at, where what comes there does not pass
   pub find-set : (l : List A) (q : ℕ) (v : A) → p v ≡ false → (find at none (λ k. p) l ≡ at q → ⊥) → find at none (λ k. p) (set l q v) ≡ find at none (λ k. p) l
@@ -202,7 +202,7 @@ module _ {A R : Type 0} (at : ℕ → R) (none : R) (p : A → Bool) where
 
   -- it finds the same where the test tells the same of each element
   pub find-same : (l m : List A) → map p l ≡ map p m → find at none (λ k. p) l ≡ find at none (λ k. p) m
-  find-same l m e = sym (over l) ∙ ap (λ (x : List Bool). foldFrom (λ k b r. pick b (at k) r) none 0 x) e ∙ over m
+  find-same l m e = sym (over l) ∙ ap (λ (x : List Bool). foldFrom (λ k b r. if b then at k else r) none 0 x) e ∙ over m
     where
-      over : (l : List A) → foldFrom (λ k b r. pick b (at k) r) none 0 (map p l) ≡ find at none (λ k. p) l
-      over l = foldFrom-map p (λ k b r. pick b (at k) r) (λ k x r. pick (p x) (at k) r) none (λ i x r. refl) 0 l
+      over : (l : List A) → foldFrom (λ k b r. if b then at k else r) none 0 (map p l) ≡ find at none (λ k. p) l
+      over l = foldFrom-map p (λ k b r. if b then at k else r) (λ k x r. if p x then at k else r) none (λ i x r. refl) 0 l

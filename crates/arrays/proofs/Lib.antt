@@ -2,5 +2,4 @@ pub mod Base
 pub mod Counting
 pub mod Laws
 pub mod Loops
-pub mod Words
 pub mod Worked

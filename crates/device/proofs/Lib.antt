@@ -1,4 +1,4 @@
 pub mod Selecting
-pub mod Settled
 pub mod WellFormed
 pub mod Worked
+pub mod Settled

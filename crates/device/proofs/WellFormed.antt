@@ -3,99 +3,34 @@
 use Prim.Native.Nat.{ℕ, zero, suc, _≤_, _<_}
 use mathlib.Core.Path.{_≡_, refl, sym, ap, _∙_}
 use mathlib.Core.Bool.{Bool, true, false, not, _&&_, _||_}
-use mathlib.Core.List.{List}
+use mathlib.Core.List.{List, [], _∷_}
 use native.Mathlib.Omega.{arith}
 use borrow.Author.Tests.{ltb-true, ltb-false, leb-true, eqb-true, not-true, lt-ltb, le-leb, eq-eqb, ne-eqb}
 use lib.Dec.{lit≤, eqb, ltb}
 use lib.ListN.{length, getD, length-replicate, getD-replicate, List·getD-eq-default}
-use Rattle.arrays.specs.Base.{pick}
+use Rattle.arrays.specs.Base.{if_then_else_}
 use Rattle.arrays.specs.Arrays.{each, all, count}
-use Rattle.arrays.proofs.Base.{cases, both, clash, pick-elim, pick-map, and-left, and-right, and-both, or-other, or-of, or-then, then-or, or-pick, same-truth}
-use Rattle.arrays.proofs.Counting.{count-none, count-one, count-same, count-unique}
+use Rattle.arrays.proofs.Base.{cases, both, clash, if-elim, if-map, and-left, and-right, and-both, each-holds, or-other, or-of, or-then, then-or, or-if, same-truth}
+use Rattle.arrays.proofs.Counting.{count-none, count-one, count-same}
 use Rattle.arrays.proofs.Laws.{each-at, each-of}
 use Rattle.wire.specs.Buffers.{allZero}
-use Rattle.kad.specs.Kad.{lengthsGood, tailsGood, kadsZero}
-use Rattle.page.specs.Check.{supplementalMost}
-use Rattle.page.specs.declared.Fields.{Fields}
-use Rattle.device.specs.Record.{State, powerOn, established, emptySet, setAt, nexusAt, noSet, newNexus, empty, used, localScope, allScope}
+use Rattle.kad.specs.Kad.{tailsGood}
+use Rattle.parameters.specs.Codes.{localScope, allScope}
+use Rattle.parameters.specs.Fields.{supplementalMost}
+use Rattle.parameters.specs.Good.{keysPast}
+use Rattle.parameters.specs.declared.Fields.{Fields}
+use Rattle.parameters.proofs.Good.{Ranges, ranges, ranges-good, ZeroFields, zero-fields}
+use Rattle.device.specs.Record.{State, powerOn, established, emptySet, setAt, nexusAt, noSet, newNexus, empty, used}
 use Rattle.device.specs.Selecting.{owns}
-use Rattle.device.specs.WellFormed.{fieldCodes, setCodes, keysPast, setTails, scopeFits, fieldsZero, setZero, emptyIsZero, setGood, localOwnsOne, allOwnsFirst, nexusGood, ownerIsLocal, usedGood, hasAll, wellFormed}
+use Rattle.device.specs.WellFormed.{setCodes, setTails, scopeFits, setZero, emptyIsZero, setGood, localOwnsOne, allOwnsFirst, nexusGood, ownerIsLocal, usedGood, hasAll, wellFormed}
 use Rattle.device.specs.declared.Set.{Set}
 use Rattle.device.specs.declared.Nexus.{Nexus}
-
--- ---- a set's fields
-
--- what the codes of a set's fields are within
-pub record Ranges (f : Fields) : Type 0 where
-  pub encryption : f .encryption ≤ 2
-  pub decryption : f .decryption ≤ 3
-  pub index : f .index ≤ 1
-  pub ceem : f .ceem ≤ 3
-  pub lengths : lengthsGood (f .kads) ≡ true
-
--- fields whose codes are good are in range
-pub ranges : (f : Fields) → fieldCodes f ≡ true → Ranges f
-ranges f g =
-    let h₄ = and-both _ _ g in
-    let h₃ = and-both _ _ (h₄ .0) in
-    let h₂ = and-both _ _ (h₃ .0) in
-    let h₁ = and-both _ _ (h₂ .0) in
-    record {
-      encryption = leb-true _ _ (h₁ .0);
-      decryption = leb-true _ _ (h₁ .1);
-      index = leb-true _ _ (h₂ .1);
-      ceem = leb-true _ _ (h₃ .1);
-      lengths = h₄ .1;
-    }
-
--- and fields in range have good codes
-pub ranges-good : (f : Fields) → Ranges f → fieldCodes f ≡ true
-ranges-good f r =
-    simp (le-leb _ _ (r .encryption), le-leb _ _ (r .decryption), le-leb _ _ (r .index), le-leb _ _ (r .ceem), r .lengths)
-
--- what fields that are zero hold
-pub record ZeroFields (f : Fields) : Type 0 where
-  pub encryption : f .encryption ≡ 0
-  pub decryption : f .decryption ≡ 0
-  pub index : f .index ≡ 0
-  pub ceem : f .ceem ≡ 0
-  pub rdmd : f .rdmd ≡ false
-  pub ckod : f .ckod ≡ false
-  pub ckorp : f .ckorp ≡ false
-  pub ckorl : f .ckorl ≡ false
-  pub key : allZero (f .key) ≡ true
-  pub kads : kadsZero (f .kads) ≡ true
-
--- fields that pass as zero hold that
-pub zero-fields : (f : Fields) → fieldsZero f ≡ true → ZeroFields f
-zero-fields f z =
-    let h₉ = and-both _ _ z in
-    let h₈ = and-both _ _ (h₉ .0) in
-    let h₇ = and-both _ _ (h₈ .0) in
-    let h₆ = and-both _ _ (h₇ .0) in
-    let h₅ = and-both _ _ (h₆ .0) in
-    let h₄ = and-both _ _ (h₅ .0) in
-    let h₃ = and-both _ _ (h₄ .0) in
-    let h₂ = and-both _ _ (h₃ .0) in
-    let h₁ = and-both _ _ (h₂ .0) in
-    record {
-      encryption = eqb-true _ _ (h₁ .0);
-      decryption = eqb-true _ _ (h₁ .1);
-      index = eqb-true _ _ (h₂ .1);
-      ceem = eqb-true _ _ (h₃ .1);
-      rdmd = not-true _ (h₄ .1);
-      ckod = not-true _ (h₅ .1);
-      ckorp = not-true _ (h₆ .1);
-      ckorl = not-true _ (h₇ .1);
-      key = h₈ .1;
-      kads = h₉ .1;
-    }
 
 -- ---- the set in a place
 
 -- the scope that a used place has: "a used place 0 has scope ALL and any other used place LOCAL"
 abbrev pub placeScope : ℕ → ℕ
-placeScope place = pick (eqb place 0) allScope localScope
+placeScope place = if eqb place 0 then allScope else localScope
 
 -- it is LOCAL at each place other than 0
 pub place-local : (place : ℕ) → 0 < place → placeScope place ≡ localScope
@@ -121,31 +56,26 @@ pub record GoodSet (nexuses place : ℕ) (set : Set) : Type 0 where
 -- the scope's test is that a used place has the place's scope
 scope-fits : (place : ℕ) (set : Set) → scopeFits place set ≡ (empty set || eqb (set .scope) (placeScope place))
 scope-fits place set =
-    or-pick (empty set) (eqb place 0) (eqb (set .scope) allScope) (eqb (set .scope) localScope)
-    ∙ ap (λ (b : Bool). empty set || b) (sym (pick-map (λ (k : ℕ). eqb (set .scope) k) (eqb place 0) allScope localScope))
+    or-if (empty set) (eqb place 0) (eqb (set .scope) allScope) (eqb (set .scope) localScope)
+    ∙ ap (λ (b : Bool). empty set || b) (sym (if-map (λ (k : ℕ). eqb (set .scope) k) (eqb place 0) allScope localScope))
 
 -- a set that passes is good
 pub good-set : (nexuses place : ℕ) (set : Set) → setGood nexuses place set ≡ true → GoodSet nexuses place set
 unfolding setGood
 good-set nexuses place set g =
-    let h₃ = and-both _ _ g in
-    let h₂ = and-both _ _ (h₃ .0) in
-    let h₁ = and-both _ _ (h₂ .0) in
-    let c₄ = and-both _ _ (h₁ .0) in
-    let c₃ = and-both _ _ (c₄ .0) in
-    let c₂ = and-both _ _ (c₃ .0) in
-    let c₁ = and-both _ _ (c₂ .0) in
-    let t = and-both _ _ (h₁ .1) in
+    let h = each-holds _ (_ ∷ _ ∷ _ ∷ []) g in
+    let codes = each-holds _ (_ ∷ _ ∷ _ ∷ _ ∷ []) (h .0) in
+    let tails = and-both _ _ (h .1 .0) in
     record {
-      owner = ltb-true _ _ (c₁ .0);
-      scope = leb-true _ _ (c₁ .1);
-      fields = ranges (set .fields) (c₂ .1);
-      supplemental = leb-true _ _ (c₃ .1);
-      indexed = λ u. eqb-true _ _ (or-other (empty set) _ (c₄ .1) (not-true _ u));
-      tails = t .0;
-      past = t .1;
-      fits = λ u. eqb-true _ _ (or-other (empty set) _ (sym (scope-fits place set) ∙ h₂ .1) (not-true _ u));
-      zero = λ z. or-then (empty set) _ (h₃ .1) (eq-eqb _ _ z);
+      owner = ltb-true _ _ (codes .0);
+      scope = leb-true _ _ (codes .1 .0);
+      fields = ranges (set .fields) (codes .1 .1 .0);
+      supplemental = leb-true _ _ (codes .1 .1 .1 .0);
+      indexed = λ u. eqb-true _ _ (or-other (empty set) _ (codes .1 .1 .1 .1 .0) (not-true _ u));
+      tails = tails .0;
+      past = tails .1;
+      fits = λ u. eqb-true _ _ (or-other (empty set) _ (sym (scope-fits place set) ∙ h .1 .1 .0) (not-true _ u));
+      zero = λ z. or-then (empty set) _ (h .1 .1 .1 .0) (eq-eqb _ _ z);
     }
 
 -- and a good set passes
@@ -168,26 +98,23 @@ pub record ZeroSet (set : Set) : Type 0 where
 -- a set that passes as zero holds that
 pub zero-set : (set : Set) → setZero set ≡ true → ZeroSet set
 zero-set set z =
-    let h₄ = and-both _ _ z in
-    let h₃ = and-both _ _ (h₄ .0) in
-    let h₂ = and-both _ _ (h₃ .0) in
-    let h₁ = and-both _ _ (h₂ .0) in
+    let h = each-holds _ (_ ∷ _ ∷ _ ∷ _ ∷ []) z in
     record {
-      owner = eqb-true _ _ (h₁ .0);
-      scope = eqb-true _ _ (h₁ .1);
-      fields = zero-fields (set .fields) (h₂ .1);
-      supplemental = eqb-true _ _ (h₃ .1);
-      keys = h₄ .1;
+      owner = eqb-true _ _ (h .0);
+      scope = eqb-true _ _ (h .1 .0);
+      fields = zero-fields (set .fields) (h .1 .1 .0);
+      supplemental = eqb-true _ _ (h .1 .1 .1 .0);
+      keys = h .1 .1 .1 .1 .0;
     }
 
 -- a set made from a page's fields is good where its owner is a nexus, its scope the place's, its index 1, and its fields are good
 pub established-good : (nexuses place owner number : ℕ) (fields : Fields) → owner < nexuses → Ranges fields → fields .index ≡ 1 → tailsGood (fields .kads) ≡ true → setGood nexuses place (established owner (placeScope place) number fields) ≡ true
 established-good nexuses place owner number fields o r i t =
-    let u : eqb (placeScope place) 0 ≡ false = pick-elim (λ (k : ℕ). eqb k 0 ≡ false) (eqb place 0) (λ e. refl) (λ e. refl) in
+    let u : eqb (placeScope place) 0 ≡ false = if-elim (λ (k : ℕ). eqb k 0 ≡ false) (eqb place 0) (λ e. refl) (λ e. refl) in
     set-good nexuses place (established owner (placeScope place) number fields)
     (record {
       owner = o;
-      scope = pick-elim (λ (k : ℕ). k ≤ 2) (eqb place 0) (λ e. lit≤ tt) (λ e. lit≤ tt);
+      scope = if-elim (λ (k : ℕ). k ≤ 2) (eqb place 0) (λ e. lit≤ tt) (λ e. lit≤ tt);
       fields = r;
       supplemental = lit≤ tt;
       indexed = λ x. i;
@@ -214,13 +141,12 @@ pub record GoodNexus (sets : List Set) (n : ℕ) (nexus : Nexus) : Type 0 where
 pub good-nexus : (sets : List Set) (n : ℕ) (nexus : Nexus) → nexusGood sets n nexus ≡ true → GoodNexus sets n nexus
 unfolding nexusGood
 good-nexus sets n nexus g =
-    let h₂ = and-both _ _ g in
-    let h₁ = and-both _ _ (h₂ .0) in
+    let h = each-holds _ (_ ∷ _ ∷ []) g in
     record {
-      scope = leb-true _ _ (h₁ .0);
-      local = λ e. eqb-true _ _ (or-then (eqb (nexus .scope) localScope) _ (h₁ .1) (eq-eqb _ _ e));
+      scope = leb-true _ _ (h .0);
+      local = λ e. eqb-true _ _ (or-then (eqb (nexus .scope) localScope) _ (h .1 .0) (eq-eqb _ _ e));
       all = λ e.
-          let t = and-both _ _ (or-then (eqb (nexus .scope) allScope) _ (h₂ .1) (eq-eqb _ _ e)) in
+          let t = and-both _ _ (or-then (eqb (nexus .scope) allScope) _ (h .1 .1 .0) (eq-eqb _ _ e)) in
           (t .0, eqb-true _ _ (t .1));
     }
 
@@ -440,11 +366,6 @@ module _ (s : State) (w : wellFormed s ≡ true) where
   -- each used place other than 0 is owned by a LOCAL nexus
   pub owner-at : (place : ℕ) → 0 < place → used (setAt s place) ≡ true → nexusAt s (setAt s place .owner) .scope ≡ localScope
   owner-at place h u = local-owner (s .nexuses) place (setAt s place) (well s w .owners place (used-within s place u)) h u
-
-  -- at most one nexus has scope ALL
-  pub only-all : (i j : ℕ) → nexusAt s i .scope ≡ allScope → nexusAt s j .scope ≡ allScope → i ≡ j
-  only-all i j e f =
-      count-unique (λ n. hasAll) newNexus (s .nexuses) i j (well s w .single) (scope-within s i (omega arith)) (scope-within s j (omega arith)) (eq-eqb _ _ e) (eq-eqb _ _ f)
 
 -- ---- a change that keeps every set and every nexus's scope
 

@@ -8,12 +8,13 @@ use Rattle.arrays.specs.Arrays.{all}
 use Rattle.wire.specs.Buffers.{padded}
 use Rattle.kad.specs.Kad.{uMost, aMost, noKads}
 use Rattle.kad.specs.declared.Kads.{Kads}
-use Rattle.page.specs.Fields.{keySize, noFields}
-use Rattle.page.specs.declared.Fields.{Fields}
-use Rattle.device.specs.Record.{State, supplementalSize, localScope, allScope, established, emptySet, noMarks, newNexus, powerOn}
+use Rattle.parameters.specs.Codes.{localScope, allScope}
+use Rattle.parameters.specs.Fields.{keySize, noFields, supplementalSize}
+use Rattle.parameters.specs.declared.Fields.{Fields}
+use Rattle.device.specs.Record.{State, established, emptySet, noMarks, newNexus, powerOn}
 use Rattle.device.specs.Selecting.{ownedPlace, selected}
 use Rattle.device.specs.WellFormed.{setGood, nexusGood, ownerIsLocal, wellFormed}
-use Rattle.device.specs.declared.Supplemental.{Supplemental}
+use Rattle.parameters.specs.declared.Supplemental.{Supplemental}
 use Rattle.device.specs.declared.Set.{Set}
 use Rattle.device.specs.declared.Nexus.{Nexus}
 

@@ -4,36 +4,17 @@ use mathlib.Core.Bool.{Bool, false, not}
 use mathlib.Core.List.{List, []}
 use lib.Dec.{eqb}
 use lib.ListN.{getD, replicate}
-use Rattle.page.specs.Fields.{noFields}
-use Rattle.page.specs.declared.Fields.{Fields}
-use Rattle.device.specs.declared.Supplemental.{Supplemental}
+use Rattle.parameters.specs.Fields.{noFields, noSupplemental}
+use Rattle.parameters.specs.declared.Fields.{Fields}
 use Rattle.device.specs.declared.Set.{Set}
 use Rattle.device.specs.declared.Marks.{Marks}
 use Rattle.device.specs.declared.Nexus.{Nexus}
-
--- the bytes of all supplemental keys of a set
-abbrev pub supplementalSize : ℕ
-supplementalSize = 128
 
 -- the record, whatever its sizes
 pub record State : Type 0 where
   pub counter : ℕ
   pub sets : List Set
   pub nexuses : List Nexus
-
--- codes of a scope
-abbrev pub publicScope : ℕ
-publicScope = 0
-
-abbrev pub localScope : ℕ
-localScope = 1
-
-abbrev pub allScope : ℕ
-allScope = 2
-
--- no supplemental keys
-abbrev pub noSupplemental : Supplemental
-noSupplemental = record { count = 0; keys = replicate supplementalSize 0 }
 
 -- a set made from a page's fields; "supplemental keys start at none"
 abbrev pub established : ℕ → ℕ → ℕ → Fields → Set

@@ -3,9 +3,10 @@ use Prim.Native.Nat.{ℕ}
 use mathlib.Core.Bool.{Bool, _&&_}
 use mathlib.Core.List.{List}
 use lib.Dec.{eqb}
-use Rattle.arrays.specs.Base.{pick}
+use Rattle.arrays.specs.Base.{if_then_else_}
 use Rattle.arrays.specs.Arrays.{find}
-use Rattle.device.specs.Record.{State, setAt, nexusAt, localScope}
+use Rattle.parameters.specs.Codes.{localScope}
+use Rattle.device.specs.Record.{State, setAt, nexusAt}
 use Rattle.device.specs.declared.Set.{Set}
 use Rattle.device.specs.declared.Nexus.{Nexus}
 use Rattle.device.specs.declared.Found.{Found}
@@ -25,7 +26,7 @@ orElse Nowhere other = other
 
 -- the place whose set nexus n uses, given the nexus and the sets
 abbrev pub placeOf : Nexus → ℕ → List Set → ℕ
-placeOf nexus n sets = pick (eqb (nexus .scope) localScope) (orElse (ownedPlace sets n) 0) 0
+placeOf nexus n sets = if eqb (nexus .scope) localScope then orElse (ownedPlace sets n) 0 else 0
 
 unfoldable pub selected : State → ℕ → ℕ
 selected s n = placeOf (nexusAt s n) n (s .sets)

@@ -4,7 +4,7 @@ use mathlib.Core.Bool.{Bool, true}
 use mathlib.Core.List.{List, map}
 use lib.ListN.{set}
 use Rattle.device.specs.Record.{State, setAt, nexusAt}
-use Rattle.device.specs.declared.Supplemental.{Supplemental}
+use Rattle.parameters.specs.declared.Supplemental.{Supplemental}
 use Rattle.device.specs.declared.Set.{Set}
 use Rattle.device.specs.declared.Marks.{Marks}
 use Rattle.device.specs.declared.Nexus.{Nexus}
@@ -24,11 +24,23 @@ withMarks marks x = record { scope = x .scope; lock = x .lock; saved = x .saved;
 abbrev pub withScope : ℕ → Nexus → Nexus
 withScope scope x = record { scope = scope; lock = x .lock; saved = x .saved; lastLocal = x .lastLocal; marks = x .marks }
 
+abbrev pub withLock : Bool → Nexus → Nexus
+withLock lock x = record { scope = x .scope; lock = lock; saved = x .saved; lastLocal = x .lastLocal; marks = x .marks }
+
+abbrev pub withSaved : ℕ → Nexus → Nexus
+withSaved number x = record { scope = x .scope; lock = x .lock; saved = number; lastLocal = x .lastLocal; marks = x .marks }
+
+abbrev pub withLastLocal : ℕ → Nexus → Nexus
+withLastLocal number x = record { scope = x .scope; lock = x .lock; saved = x .saved; lastLocal = number; marks = x .marks }
+
 abbrev pub numbered : ℕ → Set → Set
 numbered number s = record { owner = s .owner; scope = s .scope; number = number; fields = s .fields; supplemental = s .supplemental }
 
 abbrev pub withSupplemental : Supplemental → Set → Set
 withSupplemental keys s = record { owner = s .owner; scope = s .scope; number = s .number; fields = s .fields; supplemental = keys }
+
+abbrev pub withCounter : ℕ → State → State
+withCounter counter s = record { counter = counter; sets = s .sets; nexuses = s .nexuses }
 
 abbrev pub withSets : List Set → State → State
 withSets sets s = record { counter = s .counter; sets = sets; nexuses = s .nexuses }
@@ -45,4 +57,4 @@ atNexus n f s = withNexuses (set (s .nexuses) n (f (nexusAt s n))) s
 
 -- the counter, each set and each nexus made anew
 abbrev pub mapped : (ℕ → ℕ) → (Set → Set) → (Nexus → Nexus) → State → State
-mapped c f g s = record { counter = c (s .counter); sets = map f (s .sets); nexuses = map g (s .nexuses) }
+mapped c f g s = withCounter (c (s .counter)) (withSets (map f (s .sets)) (withNexuses (map g (s .nexuses)) s))

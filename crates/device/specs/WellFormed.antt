@@ -1,34 +1,27 @@
 -- Document 01: "A device record is well formed if .."
-use Prim.Native.Nat.{ℕ, _*_}
+use Prim.Native.Nat.{ℕ}
 use mathlib.Core.Bool.{Bool, not, _&&_, _||_}
 use mathlib.Core.List.{List}
 use lib.Dec.{eqb, leb, ltb}
-use lib.ListN.{length, drop, getD}
+use lib.ListN.{length, getD}
 use Rattle.arrays.specs.Arrays.{each, count}
 use Rattle.wire.specs.Buffers.{allZero}
-use Rattle.kad.specs.Kad.{lengthsGood, tailsGood, kadsZero}
-use Rattle.page.specs.Fields.{keySize}
-use Rattle.page.specs.Check.{supplementalMost}
-use Rattle.page.specs.declared.Fields.{Fields}
-use Rattle.device.specs.Record.{State, empty, used, localScope, allScope, noSet, newNexus}
+use Rattle.kad.specs.Kad.{tailsGood}
+use Rattle.parameters.specs.Codes.{localScope, allScope, algorithm}
+use Rattle.parameters.specs.Fields.{supplementalMost}
+use Rattle.parameters.specs.Good.{fieldCodes, keysPast, fieldsZero}
+use Rattle.device.specs.Record.{State, empty, used, noSet, newNexus}
 use Rattle.device.specs.Selecting.{owns}
-use Rattle.device.specs.declared.Supplemental.{Supplemental}
 use Rattle.device.specs.declared.Set.{Set}
 use Rattle.device.specs.declared.Nexus.{Nexus}
 
 -- "codes, owners and lengths are in range (index 1 in a used place)": a set's, where there are that many nexuses
-abbrev pub fieldCodes : Fields → Bool
-fieldCodes f = leb (f .encryption) 2 && leb (f .decryption) 3 && leb (f .index) 1 && leb (f .ceem) 3 && lengthsGood (f .kads)
-
 abbrev pub setCodes : ℕ → Set → Bool
 setCodes nexuses set =
-    ltb (set .owner) nexuses && leb (set .scope) 2 && fieldCodes (set .fields) && leb (set .supplemental .count) supplementalMost
-    && (empty set || eqb (set .fields .index) 1)
+    ltb (set .owner) nexuses && leb (set .scope) allScope && fieldCodes (set .fields) && leb (set .supplemental .count) supplementalMost
+    && (empty set || eqb (set .fields .index) algorithm)
 
 -- "bytes or keys past a length or count are zero"
-abbrev pub keysPast : Supplemental → Bool
-keysPast s = allZero (drop (s .count * keySize) (s .keys))
-
 abbrev pub setTails : Set → Bool
 setTails set = tailsGood (set .fields .kads) && keysPast (set .supplemental)
 
@@ -38,11 +31,6 @@ scopeFits place set =
     empty set || (eqb place 0 && eqb (set .scope) allScope) || (not (eqb place 0) && eqb (set .scope) localScope)
 
 -- "every empty place is zero but for its instance number"
-abbrev pub fieldsZero : Fields → Bool
-fieldsZero f =
-    eqb (f .encryption) 0 && eqb (f .decryption) 0 && eqb (f .index) 0 && eqb (f .ceem) 0
-    && not (f .rdmd) && not (f .ckod) && not (f .ckorp) && not (f .ckorl) && allZero (f .key) && kadsZero (f .kads)
-
 abbrev pub setZero : Set → Bool
 setZero set =
     eqb (set .owner) 0 && eqb (set .scope) 0 && fieldsZero (set .fields) && eqb (set .supplemental .count) 0 && allZero (set .supplemental .keys)
@@ -59,7 +47,7 @@ setGood nexuses place set = setCodes nexuses set && setTails set && scopeFits pl
 
 -- a nexus's codes are in range
 abbrev pub nexusCodes : Nexus → Bool
-nexusCodes nexus = leb (nexus .scope) 2
+nexusCodes nexus = leb (nexus .scope) allScope
 
 -- "each LOCAL nexus owns exactly one used place of 1 to 4"
 abbrev pub localOwnsOne : List Set → ℕ → Nexus → Bool

@@ -2,6 +2,9 @@
 use device::Found;
 use device::Nexus;
 use device::Set;
+use parameters::ALL;
+use parameters::LOCAL;
+use parameters::PUBLIC;
 use sizes_16::NEXUSES;
 use sizes_16::PLACES;
 ghost use mathlib.Core.Path.{_≡_};
@@ -13,10 +16,6 @@ ghost use Rattle.device_16.specs.Model.{state, device, numbersOf};
 ghost use Rattle.device.specs.Record.{newNexus, powerOn, nexusAt};
 ghost use Rattle.device.specs.Selecting.{owns, ownedPlace, placeOf, selected, selectedSet};
 ghost use Rattle.device.specs.WellFormed.{usedGood, nexusGood, ownerIsLocal, wellFormed};
-
-const LOCAL: u8 = 1;
-
-const ALL: u8 = 2;
 
 pub struct Device {
     pub counter: u32,
@@ -41,7 +40,7 @@ pub fn owned_place(sets: [Set; PLACES], n: usize) -> Found
 {
     for place in 0..PLACES {
         let set = sets[place];
-        if device::is_owned(set, n) {
+        if device_code::is_owned(set, n) {
             return Found::At(place);
         }
     }
@@ -69,7 +68,7 @@ pub fn place_of(nexus: Nexus, n: usize, sets: [Set; PLACES]) -> usize
     if nexus.scope != LOCAL {
         return 0;
     }
-    device::or_else(owned_place(sets, n), 0)
+    device_code::or_else(owned_place(sets, n), 0)
 }
 
 // The same of a nexus of the record.
@@ -107,7 +106,7 @@ fn owned_count(sets: [Set; PLACES], n: usize) -> usize
     let mut owned: usize = 0;
     for place in 0..PLACES {
         let set = sets[place];
-        owned += device::is_owned(set, n) as usize;
+        owned += device_code::is_owned(set, n) as usize;
     }
     owned
 }
@@ -116,11 +115,11 @@ fn owned_count(sets: [Set; PLACES], n: usize) -> usize
 fn nexus_good(nexus: Nexus, n: usize, sets: [Set; PLACES]) -> bool
     ensures { λ r. ⌜ r ≡ nexusGood sets n nexus ⌝ }
 {
-    if nexus.scope == 0 {
+    if nexus.scope == PUBLIC {
         return true;
     }
     let first = sets[0];
-    (nexus.scope <= 2)
+    (nexus.scope <= ALL)
         & ((nexus.scope != LOCAL) | (owned_count(sets, n) == 1))
         & ((nexus.scope != ALL) | ((first.scope != 0) & (first.owner as usize == n)))
 }
@@ -140,7 +139,7 @@ fn used_good(set: Set, place: usize, nexuses: [Nexus; NEXUSES]) -> bool
     if set.scope == 0 {
         return true;
     }
-    device::set_fits(set, place, NEXUSES) & owner_is_local(set, place, nexuses)
+    device_code::set_fits(set, place, NEXUSES) & owner_is_local(set, place, nexuses)
 }
 
 // The device record is well formed. The loops stand here, over arrays of this function's own: a function that is handed an array and
@@ -152,7 +151,7 @@ pub fn well_formed(d: Device) -> bool
     let nexuses = d.nexuses;
     for place in 0..PLACES {
         let set = sets[place];
-        if !device::empty_is_zero(set) {
+        if !device_code::empty_is_zero(set) {
             return false;
         }
     }

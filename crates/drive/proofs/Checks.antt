@@ -8,7 +8,7 @@ use Rattle.arrays.proofs.Base.{cases, clash}
 use Rattle.answer.specs.Answers.{isDone}
 use Rattle.answer.specs.declared.Answer.{Answer}
 use Rattle.answer.proofs.Numbers.{done-is}
-use Rattle.drive.specs.Answers.{due, firstOf}
+use Rattle.drive.specs.Checks.{answerIf, firstOf}
 
 -- where the first checks find a fault, theirs is the answer
 pub first-stops : (a b : List Answer) → isDone (firstOf a) ≡ false → firstOf (a ++ b) ≡ firstOf a
@@ -43,7 +43,7 @@ all-done [] e = tt
 all-done (a ∷ more) e = cases (isDone a) (λ t. (t, all-done more (rw t at e))) (λ f. clash (rw f at e) f)
 
 -- a check whose answer has a number found no fault
-pub passed : (fault : Bool) (a : Answer) → isDone a ≡ false → isDone (due fault a) ≡ true → fault ≡ false
+pub passed : (fault : Bool) (a : Answer) → isDone a ≡ false → isDone (answerIf fault a) ≡ true → fault ≡ false
 passed true a n e = clash e n
 passed false a n e = refl
 

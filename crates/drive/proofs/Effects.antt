@@ -7,8 +7,8 @@ use mathlib.Core.List.{List, [], _∷_, _++_}
 use borrow.Author.Tests.{leb-false}
 use lib.ListN.{length, length-set, length-map}
 use lib.Seq.{set-getD}
-use Rattle.arrays.specs.Base.{pick}
-use Rattle.arrays.proofs.Base.{cases, clash, pick-elim, pick-false}
+use Rattle.arrays.specs.Base.{if_then_else_}
+use Rattle.arrays.proofs.Base.{cases, clash, if-elim, if-false}
 use Rattle.arrays.proofs.Laws.{length-mapFrom}
 use Rattle.answer.specs.Answers.{isDone, changeOf}
 use Rattle.answer.specs.declared.Answer.{Answer}
@@ -30,7 +30,8 @@ use Rattle.places.specs.Actions.{noPlace, releases, releasedBy, taken}
 use Rattle.places.proofs.Lengths.{SameSize, size-stays, size-then, power-places, power-nexuses, acts-size, taken-size}
 use Rattle.drive.specs.declared.Command.{Command}
 use Rattle.drive.specs.Calls.{Call, powerUp, securityIn, securityOut, write, unitReset, happens, senderOf}
-use Rattle.drive.specs.Answers.{due, firstOf, pageChecked, check1, check10, instanceChanged, notUsable, heardOf, permitted, isOutPage, commandedOf, checks, recordCheck, answer, knownAnswer}
+use Rattle.status.specs.Pages.{isOutPage}
+use Rattle.drive.specs.Checks.{answerIf, firstOf, pageChecked, check1, check10, instanceChanged, notUsable, heardOf, permitted, commandedOf, checks, recordCheck, answer, knownAnswer}
 use Rattle.drive.specs.Effects.{Effect, nothing, marks, takes, clears, releasing, restarts, doing, refusal, effectBy, effect}
 use Rattle.drive.specs.After.{changedBy, Telling, carriedOut, actorOf}
 use Rattle.drive.proofs.Checks.{all-done, passed, first-stops, first-passes}
@@ -120,7 +121,7 @@ doing-due s (happens event) e = tt
 -- any call
 pub effect-due : (s : State) (call : Call) → Due s (effect s call)
 unfolding effectBy
-effect-due s call = pick-elim (Due s) (isDone (answer s call)) (doing-due s call) (λ f. refusal-due s (senderOf call) (changeOf (answer s call)))
+effect-due s call = if-elim (Due s) (isDone (answer s call)) (doing-due s call) (λ f. refusal-due s (senderOf call) (changeOf (answer s call)))
 
 -- ---- a page that was taken was answered 0
 
@@ -145,7 +146,7 @@ unfolding effectBy
 taken-answered s call n page e =
     cases (isDone (answer s call))
     (done-is (answer s call))
-    (λ f. clash (ap isTaken e) (ap isTaken (pick-false (isDone (answer s call)) (doing s call) _ f) ∙ refusal-takes (senderOf call) (changeOf (answer s call))))
+    (λ f. clash (ap isTaken e) (ap isTaken (if-false (isDone (answer s call)) (doing s call) _ f) ∙ refusal-takes (senderOf call) (changeOf (answer s call))))
 
 -- ---- power-on, whatever the record
 
@@ -176,7 +177,7 @@ refusal-restarts (Acting n) Registered = refl
 -- any other call starts nothing anew
 other-restarts : (s : State) (call : Call) → isRestart (doing s call) ≡ false → isRestart (effect s call) ≡ false
 unfolding effectBy
-other-restarts s call e = pick-elim (λ x. isRestart x ≡ false) (isDone (answer s call)) (λ t. e) (λ f. refusal-restarts (senderOf call) (changeOf (answer s call)))
+other-restarts s call e = if-elim (λ x. isRestart x ≡ false) (isDone (answer s call)) (λ t. e) (λ f. refusal-restarts (senderOf call) (changeOf (answer s call)))
 
 -- whether a call is power-on does not depend on the record
 pub restarts-anyway : (s t : State) (call : Call) → isRestart (effect s call) ≡ isRestart (effect t call)
@@ -191,7 +192,7 @@ restarts-anyway s t (happens event) = other-restarts s (happens event) refl ∙ 
 -- ---- a write
 
 -- checks 11 and 12 change nothing
-permitted-nothing : (n : ℕ) (a b : Bool) → let x = firstOf (due a KeyInstanceChanged ∷ due b ParametersNotUsable ∷ []) in pick (isDone x) nothing (refusal (Acting n) (changeOf x)) ≡ nothing
+permitted-nothing : (n : ℕ) (a b : Bool) → let x = firstOf (answerIf a KeyInstanceChanged ∷ answerIf b ParametersNotUsable ∷ []) in if isDone x then nothing else refusal (Acting n) (changeOf x) ≡ nothing
 permitted-nothing n true b = refl
 permitted-nothing n false true = refl
 permitted-nothing n false false = refl
@@ -216,10 +217,10 @@ module _ (s : State) (n : ℕ) (supported : Bool) where
   write-effect =
       cases (isDone first)
       (λ t.
-      ap (λ a. pick (isDone a) nothing (refusal (Acting n) (changeOf a))) (own-answer t)
+      ap (λ a. if isDone a then nothing else refusal (Acting n) (changeOf a)) (own-answer t)
       ∙ permitted-nothing n (instanceChanged (nexusAt s n) (selectedSet s n)) (notUsable (selectedSet s n) supported)
       ∙ ap (λ a. refusal (Acting n) (changeOf a)) (sym (done-is first t)))
-      (λ f. ap (λ a. pick (isDone a) nothing (refusal (Acting n) (changeOf a))) (first-answer f) ∙ pick-false _ _ _ f)
+      (λ f. ap (λ a. if isDone a then nothing else refusal (Acting n) (changeOf a)) (first-answer f) ∙ if-false _ _ _ f)
 
 -- ---- no effect changes the number of places or of nexuses
 

@@ -6,7 +6,7 @@ use mathlib.Core.List.{List, [], _∷_, _++_, map}
 use mathlib.Core.Path.{_≡_, refl, sym, _∙_, ap, ap₂}
 use lib.Dec.{eqb, leb}
 use lib.ListN.{length, length-map}
-use Rattle.arrays.specs.Base.{pick, bit}
+use Rattle.arrays.specs.Base.{if_then_else_, bit}
 use Rattle.arrays.specs.Arrays.{find, each, count}
 use Rattle.arrays.proofs.Laws.{read-same, read-map, foldFrom-map}
 use Rattle.answer.specs.Answers.{isDone, changeOf}
@@ -15,20 +15,22 @@ use Rattle.answer.specs.declared.Change.the-variants.{Registered}
 use Rattle.page.specs.Check.{checked}
 use Rattle.page.specs.declared.Page.{Page}
 use Rattle.page.specs.declared.Checked.{Checked}
-use Rattle.device.specs.Record.{State, setAt, nexusAt, noSet, newNexus, empty, used, localScope, allScope}
+use Rattle.parameters.specs.Codes.{localScope, allScope}
+use Rattle.device.specs.Record.{State, setAt, nexusAt, noSet, newNexus, empty, used}
 use Rattle.device.specs.Updates.{mapped}
 use Rattle.device.specs.Selecting.{owns, ownedPlace, orElse, selected}
 use Rattle.device.specs.WellFormed.{setGood, nexusGood, ownerIsLocal, hasAll, wellFormed}
 use Rattle.device.specs.declared.Set.{Set}
 use Rattle.device.specs.declared.Nexus.{Nexus}
 use Rattle.device.specs.declared.Found.the-variants.{At, Nowhere}
-use Rattle.places.specs.Actions.{release, releases, ownPlace, emptyLocal, unlockedLocal, freeAt, takenAt, room, isNoRoom, pageActions, releasedBy}
+use Rattle.places.specs.Actions.{release, releases, ownPlace, emptyLocal, unlockedLocal, freeAt, evictingAt, room, isNoRoom, pageActions, releasedBy}
 use Rattle.places.specs.declared.Event.{Event}
 use Rattle.places.specs.declared.Event.the-variants.{Demount, NexusLoss, DeviceLoss, Preempt, Microcode, VendorRelease}
 use Rattle.marks.specs.declared.Actor.the-variants.{Acting}
 use Rattle.drive.specs.declared.Command.{Command}
 use Rattle.drive.specs.Calls.{Call, powerUp, securityIn, securityOut, write, unitReset, happens}
-use Rattle.drive.specs.Answers.{due, firstOf, check1, check5, check6, isInPage, isOutPage, eventCheck, heard, heardOf, pageChecked, checks, answer}
+use Rattle.status.specs.Pages.{isInPage, isOutPage}
+use Rattle.drive.specs.Checks.{answerIf, firstOf, check1, check5, check6, eventCheck, heard, heardOf, pageChecked, checks, answer}
 use Rattle.drive.specs.Effects.{Effect, nothing, marks, takes, clears, releasing, restarts, refusal, effectBy, effect}
 use Rattle.drive.specs.After.{actionsOf}
 use Rattle.drive.proofs.Effects.{write-effect}
@@ -62,13 +64,13 @@ module _ (f : Set → Set) (g : Nexus → Nexus) (k : Keeps f g) where
 
   -- a search among the sets, where the tests agree
   find-kept : (p q : ℕ → Set → Bool) → ((i : ℕ) (x : Set) → p i (f x) ≡ q i x) → (l : List Set) → find At Nowhere p (map f l) ≡ find At Nowhere q l
-  find-kept p q e l = foldFrom-map f _ _ Nowhere (λ i x r. ap (λ b. pick b (At i) r) (e i x)) 0 l
+  find-kept p q e l = foldFrom-map f _ _ Nowhere (λ i x r. ap (λ b. if b then At i else r) (e i x)) 0 l
 
   -- the releases that agreeing tests pick
   pub releases-kept : (p : ℕ → Set → Bool) → ((i : ℕ) (x : Set) → p i (f x) ≡ p i x) → (l : List Set) → releases p (map f l) ≡ releases p l
   unfolding releases
   releases-kept p e l =
-      foldFrom-map f _ _ [] (λ i x r. ap₂ (λ a b. pick (not (eqb a 0) && b) (release i ∷ r) r) (k .scope x) (e i x)) 0 l
+      foldFrom-map f _ _ [] (λ i x r. ap₂ (λ a b. if not (eqb a 0) && b then release i ∷ r else r) (k .scope x) (e i x)) 0 l
 
   -- a test of each element, where the tests agree
   each-kept : {A : Type 0} (h : A → A) (p q : ℕ → A → Bool) → ((i : ℕ) (x : A) → p i (h x) ≡ q i x) → (l : List A) → each p (map h l) ≡ each q l
@@ -98,12 +100,12 @@ module _ (f : Set → Set) (g : Nexus → Nexus) (k : Keeps f g) where
     -- the nexus's own place
     own-kept : (n : ℕ) → ownPlace t n ≡ ownPlace s n
     unfolding ownPlace
-    own-kept n = ap₂ (λ a b. pick (eqb a localScope) b Nowhere) (nexus-kept (λ x. x .scope) (k .nexusScope) n) (owned-kept n)
+    own-kept n = ap₂ (λ a b. if eqb a localScope then b else Nowhere) (nexus-kept (λ x. x .scope) (k .nexusScope) n) (owned-kept n)
 
     -- the place whose set the nexus uses
     pub selected-kept : (n : ℕ) → selected t n ≡ selected s n
     unfolding selected
-    selected-kept n = ap₂ (λ a b. pick (eqb a localScope) (orElse b 0) 0) (nexus-kept (λ x. x .scope) (k .nexusScope) n) (owned-kept n)
+    selected-kept n = ap₂ (λ a b. if eqb a localScope then orElse b 0 else 0) (nexus-kept (λ x. x .scope) (k .nexusScope) n) (owned-kept n)
 
     -- the place of a LOCAL page
     room-kept : (n : ℕ) → room t n ≡ room s n
@@ -114,7 +116,7 @@ module _ (f : Set → Set) (g : Nexus → Nexus) (k : Keeps f g) where
         find-kept (unlockedLocal t) (unlockedLocal s)
         (λ i x. ap (λ o. not (eqb i 0) && not (nexusAt t o .lock)) (k .owner x) ∙ ap (λ l. not (eqb i 0) && not l) (nexus-kept (λ y. y .lock) (k .lock) (x .owner)))
         (s .sets) in
-        λ i. freeAt (own-kept n i) (freeAt (free i) (takenAt (lent i)))
+        λ i. freeAt (own-kept n i) (freeAt (free i) (evictingAt (lent i)))
 
     -- what is asked of a nexus
     nexus-good-kept : (n : ℕ) (x : Nexus) → nexusGood (t .sets) n (g x) ≡ nexusGood (s .sets) n x
@@ -184,7 +186,7 @@ module _ (f : Set → Set) (g : Nexus → Nexus) (k : Keeps f g) where
       heard-kept : (n : ℕ) → check1 t ∷ heardOf t n ≡ check1 s ∷ heardOf s n
       heard-kept n =
           let m = nexus-kept (λ x. x .marks) (k .marks) n in
-          λ i. due (not (formed i)) NotWellFormed ∷ heard (nexuses-kept i) n (m i)
+          λ i. answerIf (not (formed i)) NotWellFormed ∷ heard (nexuses-kept i) n (m i)
 
       -- the answer to SECURITY PROTOCOL IN
       in-kept : (command : Command) → answer t (securityIn command) ≡ answer s (securityIn command)
@@ -198,26 +200,26 @@ module _ (f : Set → Set) (g : Nexus → Nexus) (k : Keeps f g) where
           let n = command .nexus in
           let read : pageChecked t n page ≡ pageChecked s n page = page-kept n page in
           λ i. firstOf (heard-kept n i ++ check5 (command .protocol) ∷ check6 (isOutPage (command .code)) ∷ read i .answer
-          ∷ due (not (read i .page .supplemental) && eqb (read i .page .scope) localScope && isNoRoom (room-kept n i)) NoPlaceForLocal ∷ [])
+          ∷ answerIf (not (read i .page .supplemental) && eqb (read i .page .scope) localScope && isNoRoom (room-kept n i)) NoPlaceForLocal ∷ [])
 
       -- the answer to a reset
       reset-kept : answer t unitReset ≡ answer s unitReset
       unfolding answer checks
-      reset-kept = ap (λ b. firstOf (due (not b) NotWellFormed ∷ checks s unitReset)) formed
+      reset-kept = ap (λ b. firstOf (answerIf (not b) NotWellFormed ∷ checks s unitReset)) formed
 
       -- the answer to an event
       event-kept : (event : Event) → answer t (happens event) ≡ answer s (happens event)
       unfolding answer checks
-      event-kept event = λ i. firstOf (due (not (formed i)) NotWellFormed ∷ eventCheck (nexuses-kept i) (places-kept i) event ∷ [])
+      event-kept event = λ i. firstOf (answerIf (not (formed i)) NotWellFormed ∷ eventCheck (nexuses-kept i) (places-kept i) event ∷ [])
 
       -- every call does what it did: a write's answer 11 alone looks at a number, and it does nothing
       pub effect-kept : (call : Call) → effect t call ≡ effect s call
       unfolding effectBy answer checks
       effect-kept powerUp = refl
-      effect-kept (securityIn command) = ap (λ a. pick (isDone a) (marks (command .nexus) Registered) (refusal (Acting (command .nexus)) (changeOf a))) (in-kept command)
+      effect-kept (securityIn command) = ap (λ a. if isDone a then marks (command .nexus) Registered else refusal (Acting (command .nexus)) (changeOf a)) (in-kept command)
       effect-kept (securityOut command page) =
-          ap₂ (λ a (p : Checked). pick (isDone a) (takes (command .nexus) (p .page)) (refusal (Acting (command .nexus)) (changeOf a))) (out-kept command page) (page-kept (command .nexus) page)
+          ap₂ (λ a (p : Checked). if isDone a then takes (command .nexus) (p .page) else refusal (Acting (command .nexus)) (changeOf a)) (out-kept command page) (page-kept (command .nexus) page)
       effect-kept (write n supported) =
           write-effect t n supported ∙ ap (λ l. refusal (Acting n) (changeOf (firstOf l))) (heard-kept n) ∙ sym (write-effect s n supported)
-      effect-kept unitReset = ap (λ a. pick (isDone a) clears nothing) reset-kept
-      effect-kept (happens event) = ap (λ a. pick (isDone a) (releasing event) nothing) (event-kept event)
+      effect-kept unitReset = ap (λ a. if isDone a then clears else nothing) reset-kept
+      effect-kept (happens event) = ap (λ a. if isDone a then releasing event else nothing) (event-kept event)

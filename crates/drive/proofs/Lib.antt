@@ -4,5 +4,4 @@ pub mod Events
 pub mod Keeps
 pub mod Refusals
 pub mod Same
-pub mod Settled
 pub mod Table

@@ -9,7 +9,7 @@ use borrow.Author.Tests.{eqb-true, eq-eqb}
 use lib.ListN.{length, getD, set, length-set}
 use lib.Seq.{set-out, getD-set-same}
 use Rattle.arrays.proofs.Laws.{getD-set-by}
-use Rattle.arrays.proofs.Base.{pick-false, clash}
+use Rattle.arrays.proofs.Base.{if-false, clash}
 use Rattle.answer.specs.Answers.{rowOf, numberOf, isDone, changeOf}
 use Rattle.answer.specs.declared.Answer.{Answer}
 use Rattle.answer.specs.declared.Answer.the-variants.{Done, NotWellFormed, NexusAbove, ChangedByAnotherNexus, ChangedByVendorEvent, ProtocolNotSupported, PageNotSupported, PageLengthWrong, FieldWrong, FifthSupplementalKey, NoPlaceForLocal, KeyInstanceChanged, ParametersNotUsable, PlaceAbove}
@@ -21,7 +21,7 @@ use Rattle.marks.specs.Marks.{remarked, changed, changes, isActor}
 use Rattle.marks.specs.declared.Actor.{Actor}
 use Rattle.marks.specs.declared.Actor.the-variants.{Nobody, Acting}
 use Rattle.drive.specs.Calls.{Call, securityIn, write, senderOf}
-use Rattle.drive.specs.Answers.{answer}
+use Rattle.drive.specs.Checks.{answer}
 use Rattle.drive.specs.Effects.{Effect, doing, refusal, effectBy}
 use Rattle.drive.specs.After.{Telling, byNumber, carriedOut, changedBy, after}
 use Rattle.drive.specs.declared.Decision.the-variants.{Refused}
@@ -40,7 +40,7 @@ refused-does rule s (Acting n) change = refusal-changes rule s n change
 pub refusals-change : (s : State) (call : Call) → isDone (answer s call) ≡ false → after s call ≡ changesBy (senderOf call) (changeOf (answer s call)) s
 unfolding effectBy
 refusals-change s call f =
-    ap (λ (e : Effect). carriedOut byNumber s e) (pick-false (isDone (answer s call)) (doing s call) _ f)
+    ap (λ (e : Effect). carriedOut byNumber s e) (if-false (isDone (answer s call)) (doing s call) _ f)
     ∙ refused-does byNumber s (senderOf call) (changeOf (answer s call))
 
 -- what that leaves, part by part
@@ -106,6 +106,6 @@ pub every-call-answers : (s : State) → Carries s
 every-call-answers s = record {
   number = λ call. in-table (answer s call) .0;
   row = λ call. in-table (answer s call) .1;
-  inward = λ command buffer f. let b = isDone (answer s (securityIn command)) in (pick-false b _ 0 f, pick-false b _ buffer f);
-  writing = λ n supported f. let b = isDone (answer s (write n supported)) in (pick-false b _ Refused f, (pick-false b _ 0 f, pick-false b _ 0 f));
+  inward = λ command buffer f. let b = isDone (answer s (securityIn command)) in (if-false b _ 0 f, if-false b _ buffer f);
+  writing = λ n supported f. let b = isDone (answer s (write n supported)) in (if-false b _ Refused f, (if-false b _ 0 f, if-false b _ 0 f));
 }

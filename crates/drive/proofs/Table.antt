@@ -6,7 +6,8 @@ use lib.Dec.{T}
 use lib.ListN.{take, replicate}
 use Rattle.kad.specs.Reading.{descriptorRules, listed}
 use Rattle.kad.specs.Writing.{descriptors}
-use Rattle.page.specs.Fields.{listOf, noFields}
+use Rattle.parameters.specs.Fields.{noFields}
+use Rattle.page.specs.Fields.{listOf}
 use Rattle.page.specs.Rules.{openRules, modeRules, plainRules, keyRules, setRules, matchRules, endRules, supplementalRules}
 use Rattle.page.specs.Check.{publicPage, supplementalPage, setPage, checked}
 use Rattle.device.specs.Record.{State, powerOn, established}
@@ -16,11 +17,11 @@ use Rattle.device.specs.Updates.{withMarks, withScope, numbered, atPlace, atNex
 use Rattle.status.specs.Status.{statusBytes}
 use Rattle.marks.specs.Marks.{changes, flagged}
 use Rattle.marks.specs.Reset.{cleared}
-use Rattle.places.specs.Actions.{act, acts, releases, ownPlace, room, pageActions, settled, supplemented, taken}
+use Rattle.places.specs.Actions.{act, acts, releases, ownPlace, room, pageActions, senderAfter, supplemented, taken}
 use Rattle.places.specs.declared.Event.the-variants.{Demount, NexusLoss, DeviceLoss, Preempt, Microcode, VendorRelease}
 use Rattle.drive.specs.declared.Command.{Command}
 use Rattle.drive.specs.Calls.{Call, powerUp, securityIn, securityOut, write, unitReset, happens}
-use Rattle.drive.specs.Answers.{checks, answer}
+use Rattle.drive.specs.Checks.{checks, answer}
 use Rattle.drive.specs.Effects.{effectBy}
 use Rattle.drive.specs.After.{actionsOf, changedBy, carriedOut}
 use Rattle.drive.specs.Runs.{runFrom}
@@ -96,7 +97,7 @@ table =
     ∷ []
 
 pub proved : T (every table)
-unfolding every table holds sameRecord answer checks effectBy actionsOf changedBy carriedOut changes flagged cleared runFrom responsePage act acts releases ownPlace room pageActions settled supplemented taken statusBytes setGood nexusGood ownerIsLocal wellFormed ownedPlace selected powerOn publicPage supplementalPage setPage checked openRules modeRules plainRules keyRules setRules matchRules endRules supplementalRules listOf descriptorRules listed descriptors
+unfolding every table holds sameRecord answer checks effectBy actionsOf changedBy carriedOut changes flagged cleared runFrom responsePage act acts releases ownPlace room pageActions senderAfter supplemented taken statusBytes setGood nexusGood ownerIsLocal wellFormed ownedPlace selected powerOn publicPage supplementalPage setPage checked openRules modeRules plainRules keyRules setRules matchRules endRules supplementalRules listOf descriptorRules listed descriptors
 proved = tt
 
 -- ---- further rules that P1 to P10 don't show
@@ -283,5 +284,5 @@ unfoldable pub further : List Claim
 further = pages ++ decisions ++ registering ++ flags ++ events ++ untouched ++ taking
 
 pub further-proved : T (every further)
-unfolding every further holds sameRecord answer checks effectBy actionsOf changedBy carriedOut changes flagged cleared runFrom responsePage act acts releases ownPlace room pageActions settled supplemented taken statusBytes setGood nexusGood ownerIsLocal wellFormed ownedPlace selected powerOn publicPage supplementalPage setPage checked openRules modeRules plainRules keyRules setRules matchRules endRules supplementalRules listOf descriptorRules listed descriptors
+unfolding every further holds sameRecord answer checks effectBy actionsOf changedBy carriedOut changes flagged cleared runFrom responsePage act acts releases ownPlace room pageActions senderAfter supplemented taken statusBytes setGood nexusGood ownerIsLocal wellFormed ownedPlace selected powerOn publicPage supplementalPage setPage checked openRules modeRules plainRules keyRules setRules matchRules endRules supplementalRules listOf descriptorRules listed descriptors
 further-proved = tt

@@ -6,7 +6,7 @@ use lib.Dec.{eqb}
 use lib.ListN.{replicate}
 use Rattle.answer.specs.Answers.{numberOf, senseOf}
 use Rattle.answer.specs.declared.Answer.{Answer}
-use Rattle.page.specs.declared.Fields.{Fields}
+use Rattle.parameters.specs.declared.Fields.{Fields}
 use Rattle.device.specs.Record.{State, nexusAt, setAt}
 use Rattle.device.specs.Selecting.{selected, selectedSet}
 use Rattle.device.specs.declared.Set.{Set}
@@ -14,7 +14,7 @@ use Rattle.device.specs.declared.Marks.{Marks}
 use Rattle.device.specs.declared.Nexus.{Nexus}
 use Rattle.drive.specs.declared.Command.{Command}
 use Rattle.drive.specs.Calls.{Call, securityIn, securityOut, write}
-use Rattle.drive.specs.Answers.{answer}
+use Rattle.drive.specs.Checks.{answer}
 use Rattle.drive.specs.After.{after}
 use Rattle.drive.specs.Runs.{run}
 use Rattle.drive.specs.Outcomes.{inLength, inBuffer, valueOf, decision, decidedPlace, decidedIndex}

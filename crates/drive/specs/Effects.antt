@@ -1,6 +1,6 @@
 -- What a call does, once its answer is known.
 use Prim.Native.Nat.{ℕ}
-use Rattle.arrays.specs.Base.{pick}
+use Rattle.arrays.specs.Base.{if_then_else_}
 use Rattle.answer.specs.Answers.{changeOf, isDone}
 use Rattle.answer.specs.declared.Answer.{Answer}
 use Rattle.answer.specs.declared.Change.{Change}
@@ -11,7 +11,7 @@ use Rattle.marks.specs.declared.Actor.{Actor}
 use Rattle.marks.specs.declared.Actor.the-variants.{Nobody, Acting}
 use Rattle.places.specs.declared.Event.{Event}
 use Rattle.drive.specs.Calls.{Call, powerUp, securityIn, securityOut, write, unitReset, happens, senderOf}
-use Rattle.drive.specs.Answers.{pageChecked, answer}
+use Rattle.drive.specs.Checks.{pageChecked, answer}
 
 pub data Effect : Type 0 where
   nothing : Effect
@@ -40,7 +40,7 @@ refusal (Acting n) Registered = marks n Registered
 
 -- a call with that answer
 unfoldable pub effectBy : State → Call → Answer → Effect
-effectBy s call a = pick (isDone a) (doing s call) (refusal (senderOf call) (changeOf a))
+effectBy s call a = if isDone a then doing s call else refusal (senderOf call) (changeOf a)
 
 abbrev pub effect : State → Call → Effect
 effect s call = effectBy s call (answer s call)

@@ -1,5 +1,5 @@
 pub mod Calls
-pub mod Answers
+pub mod Checks
 pub mod Effects
 pub mod After
 pub mod Runs

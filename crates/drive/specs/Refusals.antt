@@ -17,7 +17,7 @@ use Rattle.marks.specs.declared.Actor.the-variants.{Nobody, Acting}
 use Rattle.drive.specs.declared.Command.{Command}
 use Rattle.drive.specs.declared.Decision.the-variants.{Refused}
 use Rattle.drive.specs.Calls.{Call, securityIn, write}
-use Rattle.drive.specs.Answers.{answer}
+use Rattle.drive.specs.Checks.{answer}
 use Rattle.drive.specs.Outcomes.{inLength, inBuffer, decision, decidedPlace, decidedIndex}
 
 -- the record with a change in its sender's marks; where there is no sender, the record

@@ -7,7 +7,7 @@ use mathlib.Core.List.{List}
 use borrow.Author.Tests.{not-false}
 use lib.ListN.{length}
 use Rattle.arrays.specs.Arrays.{each}
-use Rattle.arrays.proofs.Base.{cases, pick-true, pick-false, or-other, or-left-false}
+use Rattle.arrays.proofs.Base.{cases, if-true, if-false, or-other, or-left-false}
 use Rattle.wire.specs.Buffers.{shown}
 use Rattle.answer.specs.Answers.{senseOf, changeOf, isDone}
 use Rattle.answer.specs.declared.Answer.{Answer}
@@ -22,7 +22,7 @@ use Rattle.marks.specs.declared.Actor.the-variants.{Nobody, Acting}
 use Rattle.drive.specs.Calls.{Call, securityIn, securityOut, write, happens, senderOf}
 use Rattle.places.specs.Actions.{noPlace, spared, releasedBy}
 use Rattle.places.specs.declared.Event.{Event}
-use Rattle.drive.specs.Answers.{check1, check10, recordCheck, pageChecked, answer, eventCheck, knownAnswer, checks}
+use Rattle.drive.specs.Checks.{check1, check10, recordCheck, pageChecked, answer, eventCheck, knownAnswer, checks}
 use Rattle.drive.specs.Effects.{takes, doing, refusal, effectBy, releasing}
 use Rattle.drive.specs.After.{byNumber, changedBy, carriedOut}
 use Rattle.drive.specs.Outcomes.{responsePage, inLength, inBuffer, decided, decision, decidedPlace, decidedIndex}
@@ -32,7 +32,7 @@ use Rattle.drive.proofs.Checks.{last-is}
 use Rattle.drive.proofs.Effects.{refusal-changes}
 use Rattle.drive.proofs.Events.{event-none}
 use Rattle.device_16.specs.Model.{device}
-use Rattle.drive_16.specs.Outcomes.{deviceBy, outcomeBy, inOutcomeBy, writeOutcomeBy, refused, refusedIn, refusedWrite, unchanged, accepted}
+use Rattle.drive_16.specs.Outcomes.{deviceBy, outcomeBy, inOutcomeBy, writeOutcomeBy, refusedCall, refusedIn, refusedWrite, unchanged, pageOutcome}
 
 -- a record that is not well formed is answered 1, by every call that takes one
 pub not-formed : (s : State) (call : Call) → recordCheck s call ≡ check1 s → wellFormed s ≡ false → NotWellFormed ≡ answer s call
@@ -56,7 +56,7 @@ module _ (s : State) (call : Call) (a : Answer) where
   device-kept e f = sym (simp (f, e))
 
   -- the outcome of a call that is refused
-  pub out-refused : (n : ℕ) → senderOf call ≡ Acting n → isDone a ≡ false → refused s n a ≡ outcomeBy s call a
+  pub out-refused : (n : ℕ) → senderOf call ≡ Acting n → isDone a ≡ false → refusedCall s n a ≡ outcomeBy s call a
   unfolding outcomeBy
   out-refused n e f = λ i. record { device = device-refused n e f i; answer = a; sense = senseOf a }
 
@@ -117,17 +117,17 @@ module _ (s : State) (n : ℕ) (supported : Bool) (a : Answer) where
 
 -- a page that passed its check is answered by check 10
 pub page-decides : (s : State) (command : Command) (bytes : List ℕ) (a : Answer) → a ≡ check10 s (command .nexus) (pageChecked s (command .nexus) bytes .page)
-    → accepted s (command .nexus) (pageChecked s (command .nexus) bytes .page) ≡ outcomeBy s (securityOut command bytes) a
+    → pageOutcome s (command .nexus) (pageChecked s (command .nexus) bytes .page) ≡ outcomeBy s (securityOut command bytes) a
 page-decides s command bytes a e =
     let n = command .nexus in
     let read = pageChecked s n bytes .page in
     cases (noPlace s n read)
     (λ t.
-    let refusal : NoPlaceForLocal ≡ a = sym (e ∙ pick-true _ NoPlaceForLocal Done t) in
-    pick-true _ _ _ t ∙ ap (refused s n) refusal ∙ out-refused s (securityOut command bytes) a n refl (ap isDone (sym refusal)))
+    let refusal : NoPlaceForLocal ≡ a = sym (e ∙ if-true _ NoPlaceForLocal Done t) in
+    if-true _ _ _ t ∙ ap (refusedCall s n) refusal ∙ out-refused s (securityOut command bytes) a n refl (ap isDone (sym refusal)))
     (λ f.
-    let done : Done ≡ a = sym (e ∙ pick-false _ NoPlaceForLocal Done f) in
-    pick-false _ _ _ f
+    let done : Done ≡ a = sym (e ∙ if-false _ NoPlaceForLocal Done f) in
+    if-false _ _ _ f
     ∙ ap (λ (x : Answer). record { device = device (carriedOut byNumber s (takes n read)); answer = x; sense = senseOf Done }) done
     ∙ out-done s (securityOut command bytes) a (ap isDone (sym done)))
 

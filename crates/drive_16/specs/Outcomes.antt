@@ -1,7 +1,7 @@
--- What each public call of this model gives back. a is the call's answer; "A refused answer carries its number and sense only."
+-- What each public call of this model gives back. a is the call's answer; "A refusedCall answer carries its number and sense only."
 use Prim.Native.Nat.{ℕ}
 use mathlib.Core.Bool.{Bool}
-use Rattle.arrays.specs.Base.{pick}
+use Rattle.arrays.specs.Base.{if_then_else_}
 use Rattle.answer.specs.Answers.{senseOf, changeOf}
 use Rattle.answer.specs.declared.Answer.{Answer}
 use Rattle.answer.specs.declared.Answer.the-variants.{Done, NoPlaceForLocal}
@@ -10,7 +10,7 @@ use Rattle.device.specs.Record.{State, powerOn}
 use Rattle.marks.specs.Marks.{changes}
 use Rattle.places.specs.Actions.{noPlace}
 use Rattle.drive.specs.Calls.{Call, securityIn, write}
-use Rattle.drive.specs.Answers.{answer, knownAnswer}
+use Rattle.drive.specs.Checks.{answer, knownAnswer}
 use Rattle.drive.specs.Effects.{takes, effectBy}
 use Rattle.drive.specs.After.{byNumber, carriedOut}
 use Rattle.drive.specs.Outcomes.{inLength, decision, decidedPlace, decidedIndex}
@@ -74,9 +74,9 @@ knownWriteOutcome s n supported = writeOutcomeBy s n supported (knownAnswer s (w
 
 -- ---- parts of these, as the code makes them
 
--- a refused call: what the row of its answer says of nexus n's marks
-abbrev pub refused : State → ℕ → Answer → Outcome
-refused s n a = record { device = device (changes s n (changeOf a)); answer = a; sense = senseOf a }
+-- a refusedCall call: what the row of its answer says of nexus n's marks
+abbrev pub refusedCall : State → ℕ → Answer → Outcome
+refusedCall s n a = record { device = device (changes s n (changeOf a)); answer = a; sense = senseOf a }
 
 abbrev pub refusedIn : State → ℕ → Answer → InOutcome
 refusedIn s n a = record { device = device (changes s n (changeOf a)); answer = a; sense = senseOf a; length = 0 }
@@ -90,7 +90,7 @@ abbrev pub unchanged : State → Answer → Outcome
 unchanged s a = record { device = device s; answer = a; sense = senseOf a }
 
 -- a page that passed its check: "else answer 10", else it is taken
-abbrev pub accepted : State → ℕ → Page → Outcome
-accepted s n page =
-    pick (noPlace s n page) (refused s n NoPlaceForLocal)
-    (record { device = device (carriedOut byNumber s (takes n page)); answer = Done; sense = senseOf Done })
+abbrev pub pageOutcome : State → ℕ → Page → Outcome
+pageOutcome s n page =
+    if noPlace s n page then refusedCall s n NoPlaceForLocal
+    else record { device = device (carriedOut byNumber s (takes n page)); answer = Done; sense = senseOf Done }

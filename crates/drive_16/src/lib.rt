@@ -17,11 +17,11 @@ ghost use Rattle.wire.specs.Buffers.{Shown};
 ghost use Rattle.device_16.specs.Model.{state, device};
 ghost use Rattle.status.specs.Status.{statusOf};
 ghost use Rattle.drive.specs.Calls.{securityIn, securityOut, unitReset, happens};
-ghost use Rattle.drive.specs.Answers.{firstOf, commandedOf, pageChecked, answer, knownAnswer};
+ghost use Rattle.drive.specs.Checks.{firstOf, commandedOf, pageChecked, answer, knownAnswer};
 ghost use Rattle.drive.specs.Effects.{releasing};
 ghost use Rattle.drive.specs.After.{byNumber, carriedOut};
 ghost use Rattle.drive.specs.Outcomes.{responsePage, inBuffer};
-ghost use Rattle.drive_16.specs.Outcomes.{poweredOn, outcome, inOutcome, writeOutcome, knownOutcome, knownInOutcome, knownWriteOutcome, refused, refusedIn, refusedWrite, unchanged, accepted};
+ghost use Rattle.drive_16.specs.Outcomes.{poweredOn, outcome, inOutcome, writeOutcome, knownOutcome, knownInOutcome, knownWriteOutcome, refusedCall, refusedIn, refusedWrite, unchanged, pageOutcome};
 
 // The device stands first in each outcome: after a byte and its padding the compiler copies it twice more.
 pub struct Outcome {
@@ -61,9 +61,9 @@ pub fn power_on() -> Outcome
 
 // What the row of its answer says of a refused call.
 fn refuse(d: Device, n: u8, answer: Answer) -> Outcome
-    ensures { λ r. ⌜ r ≡ refused (state d) n answer ⌝ }
+    ensures { λ r. ⌜ r ≡ refusedCall (state d) n answer ⌝ }
 {
-    let row = answer::row_of(answer);
+    let row = answer_code::row_of(answer);
     let sense = row.sense;
     let change = row.change;
     Outcome {
@@ -79,7 +79,7 @@ fn check_command(d: Device, command: Command, supported: bool) -> Answer
 {
     let nexus = device_16::nexus_at(d, command.nexus as usize);
     let marks = nexus.marks;
-    drive::check_command(command, marks, NEXUSES, supported)
+    drive_code::check_command(command, marks, NEXUSES, supported)
 }
 
 // The response page of a code.
@@ -87,30 +87,30 @@ fn respond(d: Device, n: u8, code: u16, buffer: &mut [u8]) -> usize
     ensures { λ r. ⌜ Shown (responsePage (state d) n code) (now (buffer .entry)) r (now (buffer .exit)) ⌝ }
 {
     if code == 0x00 {
-        return status::write_supported_in(buffer);
+        return status_code::write_supported_in(buffer);
     }
     if code == 0x01 {
-        return status::write_supported_out(buffer);
+        return status_code::write_supported_out(buffer);
     }
     if code == 0x12 {
-        return status::write_capabilities(buffer);
+        return status_code::write_capabilities(buffer);
     }
-    status::write_status(status_of(d, n as usize), buffer)
+    status_code::write_status(status_of(d, n as usize), buffer)
 }
 
 fn status_of(d: Device, n: usize) -> status::Status
     ensures { λ r. ⌜ r ≡ statusOf (state d) n ⌝ }
 {
     let nexus = device_16::nexus_at(d, n);
-    status::status_with(nexus.scope, device_16::selected_set(d, n))
+    status_code::status_with(nexus.scope, device_16::selected_set(d, n))
 }
 
 fn refuse_in(d: Device, n: u8, answer: Answer) -> InOutcome
     ensures { λ r. ⌜ r ≡ refusedIn (state d) n answer ⌝ }
 {
-    let refused = refuse(d, n, answer);
-    let after = refused.device;
-    let sense = refused.sense;
+    let refusedCall = refuse(d, n, answer);
+    let after = refusedCall.device;
+    let sense = refusedCall.sense;
     InOutcome {
         device: after,
         answer,
@@ -123,8 +123,8 @@ fn refuse_in(d: Device, n: u8, answer: Answer) -> InOutcome
 pub fn security_in_known(d: Device, command: Command, buffer: &mut [u8]) -> InOutcome
     ensures { λ r. ⌜ (r ≡ knownInOutcome (state d) command) × (now (buffer .exit) ≡ inBuffer (state d) command (knownAnswer (state d) (securityIn command)) (now (buffer .entry))) ⌝ }
 {
-    let answer = check_command(d, command, drive::is_in_page(command.code));
-    if !answer::is_done(answer) {
+    let answer = check_command(d, command, status_code::is_in_page(command.code));
+    if !answer_code::is_done(answer) {
         return refuse_in(d, command.nexus, answer);
     }
     let length = respond(d, command.nexus, command.code, buffer);
@@ -154,7 +154,7 @@ fn check_page(d: Device, n: u8, page: &[u8]) -> Checked
     let sets = d.sets;
     let place = device_16::place_of(nexus, n as usize, sets);
     let set = sets[place];
-    page::check(
+    page_code::check(
         page,
         nexus.scope,
         set.fields.decryption,
@@ -164,10 +164,10 @@ fn check_page(d: Device, n: u8, page: &[u8]) -> Checked
 
 // A page that passed its check: check 10, and the page taken.
 fn accept(d: Device, n: u8, page: Page) -> Outcome
-    ensures { λ r. ⌜ r ≡ accepted (state d) n page ⌝ }
+    ensures { λ r. ⌜ r ≡ pageOutcome (state d) n page ⌝ }
 {
     let room = places_16::room_asked(d, n, page);
-    if places::needs_place(page) & places::is_no_room(room) {
+    if places_code::needs_place(page) & places_code::is_no_room(room) {
         return refuse(d, n, Answer::NoPlaceForLocal);
     }
     let taken = places_16::take_page(d, n, page, room);
@@ -183,13 +183,13 @@ fn accept(d: Device, n: u8, page: Page) -> Outcome
 pub fn security_out_known(d: Device, command: Command, page: &[u8]) -> Outcome
     ensures { λ r. ⌜ r ≡ knownOutcome (state d) (securityOut command (now (page .entry))) ⌝ }
 {
-    let first = check_command(d, command, drive::is_out_page(command.code));
-    if !answer::is_done(first) {
+    let first = check_command(d, command, status_code::is_out_page(command.code));
+    if !answer_code::is_done(first) {
         return refuse(d, command.nexus, first);
     }
     let checked = check_page(d, command.nexus, page);
     let answer = checked.answer;
-    if !answer::is_done(answer) {
+    if !answer_code::is_done(answer) {
         return refuse(d, command.nexus, answer);
     }
     let read = checked.page;
@@ -209,9 +209,9 @@ pub fn security_out(d: Device, command: Command, page: &[u8]) -> Outcome
 fn refuse_write(d: Device, n: u8, answer: Answer) -> WriteOutcome
     ensures { λ r. ⌜ r ≡ refusedWrite (state d) n answer ⌝ }
 {
-    let refused = refuse(d, n, answer);
-    let after = refused.device;
-    let sense = refused.sense;
+    let refusedCall = refuse(d, n, answer);
+    let after = refusedCall.device;
+    let sense = refusedCall.sense;
     WriteOutcome {
         device: after,
         answer,
@@ -228,22 +228,22 @@ pub fn write_known(d: Device, n: u8, supported: bool) -> WriteOutcome
 {
     let nexus = device_16::nexus_at(d, n as usize);
     let marks = nexus.marks;
-    let heard = drive::hear(n, marks, NEXUSES);
-    if !answer::is_done(heard) {
+    let heard = drive_code::hear(n, marks, NEXUSES);
+    if !answer_code::is_done(heard) {
         return refuse_write(d, n, heard);
     }
     let sets = d.sets;
     let place = device_16::place_of(nexus, n as usize, sets);
     let set = sets[place];
-    let answer = drive::check_write(nexus, set, supported);
-    if !answer::is_done(answer) {
+    let answer = drive_code::check_write(nexus, set, supported);
+    if !answer_code::is_done(answer) {
         return refuse_write(d, n, answer);
     }
     WriteOutcome {
         device: d,
         answer,
         sense: Sense::NONE,
-        decision: drive::decide(set.fields.encryption),
+        decision: drive_code::decide(set.fields.encryption),
         place,
         index: set.fields.index,
     }
@@ -266,7 +266,7 @@ fn unchanged(d: Device, answer: Answer) -> Outcome
     Outcome {
         device: d,
         answer,
-        sense: answer::sense_of(answer),
+        sense: answer_code::sense_of(answer),
     }
 }
 
@@ -296,16 +296,16 @@ fn release(d: Device, event: Event) -> Device
     ensures { λ r. ⌜ r ≡ device (carriedOut byNumber (state d) (releasing event)) ⌝ }
 {
     let released = places_16::release_by(d, event);
-    marks_16::tell(d, released, drive::actor_of(event))
+    marks_16::tell(d, released, drive_code::actor_of(event))
 }
 
 // An event, after check 1. One that releases nothing leaves the record as it is.
 pub fn happen_known(d: Device, event: Event) -> Outcome
     ensures { λ r. ⌜ r ≡ knownOutcome (state d) (happens event) ⌝ }
 {
-    let answer = drive::check_event(event, NEXUSES, PLACES);
+    let answer = drive_code::check_event(event, NEXUSES, PLACES);
     let sets = d.sets;
-    if !answer::is_done(answer) | places_16::none_due(sets, event) {
+    if !answer_code::is_done(answer) | places_16::none_due(sets, event) {
         return unchanged(d, answer);
     }
     Outcome {
@@ -322,9 +322,9 @@ pub fn happen(d: Device, event: Event) -> Outcome
     if !device_16::well_formed(d) {
         return unchanged(d, Answer::NotWellFormed);
     }
-    let answer = drive::check_event(event, NEXUSES, PLACES);
+    let answer = drive_code::check_event(event, NEXUSES, PLACES);
     let sets = d.sets;
-    if !answer::is_done(answer) | places_16::none_due(sets, event) {
+    if !answer_code::is_done(answer) | places_16::none_due(sets, event) {
         return unchanged(d, answer);
     }
     Outcome {

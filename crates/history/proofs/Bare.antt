@@ -22,7 +22,7 @@ use Rattle.drive.specs.Effects.{Effect, nothing, marks, takes, clears, releasin
 use Rattle.drive.specs.After.{actionsOf, changedBy, actorOf, carriedOut, byNumber, actions, after}
 use Rattle.drive.proofs.Effects.{isRestart}
 use Rattle.drive.proofs.Keeps.{Keeps, good-kept}
-use Rattle.history.specs.History.{hits, did, Bare, bareSet, bareNexus, bare, fullSet, fullNexus, full, byAction, reads, numberAt, Low}
+use Rattle.history.specs.History.{hits, did, Bare, bareSet, bareNexus, bare, fullSet, fullNexus, full, byAction, reads, placeNumber, Low}
 use Rattle.history.proofs.Left.{changed-same}
 use Rattle.history.proofs.Numbers.{differs-hits}
 use Rattle.history.proofs.Moves.{Moves, Alike, same-selected, effect-alike, same-actions, same-effect}
@@ -131,7 +131,7 @@ same-but-numbers s t e call =
 telling-same : (s : State) (e : Effect) (actor : Actor) → isRestart e ≡ false → Low s (length (actionsOf s e))
     → flagged (byNumber (actionsOf s e) s (changedBy s e)) actor s (changedBy s e) ≡ flagged (byAction (actionsOf s e) s (changedBy s e)) actor s (changedBy s e)
 telling-same s e actor f w =
-    let number : (place : ℕ) → numberAt (changedBy s e) place ≡ numberAt (acts s (actionsOf s e)) place =
+    let number : (place : ℕ) → placeNumber (changedBy s e) place ≡ placeNumber (acts s (actionsOf s e)) place =
     read-same (λ x. x .number) (changedBy s e .sets) (acts s (actionsOf s e) .sets) noSet (changed-same (λ x. x .number) (λ k x. refl) s e f) in
     λ i. flagged (λ n. differs-hits (actionsOf s e) s (changedBy s e) n w number i) actor s (changedBy s e)
 

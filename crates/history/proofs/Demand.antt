@@ -13,7 +13,7 @@ use Rattle.device.specs.declared.Found.the-variants.{At, Nowhere}
 use Rattle.drive.specs.Calls.{Call}
 use Rattle.drive.specs.After.{after}
 use Rattle.drive.specs.Runs.{runFrom, run}
-use Rattle.history.specs.History.{Did, ranFrom, bare, readFrom, reading, isHeard, isStopped, touched, Latest, placeLeft, LatestPage, leftBy, numberAt, drew, First, Trail, isFound, trail}
+use Rattle.history.specs.History.{Did, ranFrom, bare, readFrom, reading, isHeard, isStopped, touched, Latest, placeLeft, LatestPage, leftBy, placeNumber, drew, First, Trail, isFound, trail}
 use Rattle.history.proofs.Numbers.{Sound, power-sound}
 use Rattle.history.proofs.Runs.{run-append, read-append, Calm, power-steady, run-sound, reading-is-run}
 use Rattle.history.proofs.Latest.{latest-page, stopped-since}
@@ -150,7 +150,7 @@ first-touch nexuses places some calls fits n known supported heard locked =
 
 -- Two sets never share a number before the wrap: a used place and any other have different ones.
 pub numbers-apart : (nexuses places : ℕ) (calls : List Call) → drew nexuses places calls < 2 ^ 32
-    → (p q : ℕ) → used (setAt (run nexuses places calls) p) ≡ true → (p ≡ q → ⊥) → numberAt (run nexuses places calls) p ≡ numberAt (run nexuses places calls) q → ⊥
+    → (p q : ℕ) → used (setAt (run nexuses places calls) p) ≡ true → (p ≡ q → ⊥) → placeNumber (run nexuses places calls) p ≡ placeNumber (run nexuses places calls) q → ⊥
 numbers-apart nexuses places calls fits p q u ne e =
     let sound : Sound (run nexuses places calls) =
     rw (run-since nexuses places calls) (run-sound (cut nexuses places calls .since) 0 (powerOn nexuses places) (power-steady nexuses places (cut nexuses places calls .since) (calm-since nexuses places calls fits)) (power-sound nexuses places)) in

@@ -8,24 +8,25 @@ use lib.ListN.{length, getD, replicate}
 use lib.Seq.{getD-set-same}
 use lib.Dec.{eqb}
 use borrow.Author.Tests.{eqb-true, eqb-false, not-true}
-use Rattle.arrays.specs.Base.{pick}
-use Rattle.arrays.proofs.Base.{cases, clash, and-left, and-right, pick-elim, pick-true}
+use Rattle.arrays.specs.Base.{if_then_else_}
+use Rattle.arrays.proofs.Base.{cases, clash, and-left, and-right, if-elim, if-true}
 use Rattle.arrays.proofs.Laws.{find-by}
 use Rattle.answer.specs.declared.Change.the-variants.{Registered}
 use Rattle.page.specs.declared.Page.{Page}
-use Rattle.device.specs.Record.{State, powerOn, setAt, nexusAt, noSet, newNexus, localScope}
+use Rattle.parameters.specs.Codes.{localScope}
+use Rattle.device.specs.Record.{State, powerOn, setAt, nexusAt, noSet, newNexus}
 use Rattle.device.specs.Updates.{withScope, atNexus}
 use Rattle.device.specs.Selecting.{owns, ownedPlace, orElse, selected, selectedSet}
 use Rattle.device.specs.declared.Nexus.{Nexus}
 use Rattle.device.specs.declared.Found.the-variants.{At, Nowhere}
 use Rattle.device.proofs.Selecting.{selected-within}
 use Rattle.marks.specs.Marks.{changes}
-use Rattle.places.specs.Actions.{acts, pageActions, settledNexus, settled, taken}
-use Rattle.places.proofs.Lengths.{acts-size, settled-size}
+use Rattle.places.specs.Actions.{acts, pageActions, nexusAfter, senderAfter, taken}
+use Rattle.places.proofs.Lengths.{acts-size, sender-size}
 use Rattle.drive.specs.Effects.{Effect, nothing, marks, takes, clears, releasing, restarts}
 use Rattle.drive.specs.After.{actionsOf, changedBy, Telling, carriedOut}
 use Rattle.drive.proofs.Effects.{isRestart}
-use Rattle.history.specs.History.{accepts, numberAt}
+use Rattle.history.specs.History.{accepts, placeNumber}
 use Rattle.history.proofs.Left.{taken-whole}
 use Rattle.history.proofs.Numbers.{Fits, Sound, acts-sound, anew, effect-sound}
 use Rattle.history.proofs.Held.{Mark, View, view, Held, hitBy, acts-held}
@@ -48,7 +49,7 @@ pub record Good (n : ℕ) (m : Mark) (s : State) : Type 0 where
 selected-used : (s : State) (n : ℕ) → (selected s n ≡ 0 → ⊥) → setAt s (selected s n) .scope ≡ localScope
 unfolding selected ownedPlace
 selected-used s n =
-    pick-elim (λ p. (p ≡ 0 → ⊥) → setAt s p .scope ≡ localScope) (eqb (nexusAt s n .scope) localScope)
+    if-elim (λ p. (p ≡ 0 → ⊥) → setAt s p .scope ≡ localScope) (eqb (nexusAt s n .scope) localScope)
     (λ e. find-by At Nowhere (λ place. owns n) noSet (λ f. (orElse f 0 ≡ 0 → ⊥) → setAt s (orElse f 0) .scope ≡ localScope) (s .sets)
     (λ k l t ne. eqb-true _ _ (and-left _ _ t))
     (λ ne. absurd (ne refl)))
@@ -60,40 +61,40 @@ module _ (n : ℕ) (page : Page) (e : State) (b : Base n e) where
   number = selectedSet (atNexus n (withScope (page .scope)) e) n .number
 
   -- the sender afterwards
-  nexus-is : nexusAt (settled e n page) n ≡ settledNexus page number (nexusAt e n)
-  unfolding settled
-  nexus-is = getD-set-same (e .nexuses) n (settledNexus page number (nexusAt e n)) newNexus (b .here)
+  nexus-is : nexusAt (senderAfter e n page) n ≡ nexusAfter page number (nexusAt e n)
+  unfolding senderAfter
+  nexus-is = getD-set-same (e .nexuses) n (nexusAfter page number (nexusAt e n)) newNexus (b .here)
 
   -- the place that a nexus with its sets uses
   uses : Nexus → ℕ
-  uses x = pick (eqb (x .scope) localScope) (orElse (ownedPlace (e .sets) n) 0) 0
+  uses x = if eqb (x .scope) localScope then orElse (ownedPlace (e .sets) n) 0 else 0
 
   -- saving changes no place
-  selected-is : selected (settled e n page) n ≡ selected (atNexus n (withScope (page .scope)) e) n
-  unfolding settled selected uses
+  selected-is : selected (senderAfter e n page) n ≡ selected (atNexus n (withScope (page .scope)) e) n
+  unfolding senderAfter selected uses
   selected-is = ap uses nexus-is ∙ sym (ap uses (getD-set-same (e .nexuses) n (withScope (page .scope) (nexusAt e n)) newNexus (b .here)))
 
   -- with LOCK 1, it has saved its set's number
-  settled-kept : nexusAt (settled e n page) n .lock ≡ true → nexusAt (settled e n page) n .saved ≡ numberAt (settled e n page) (selected (settled e n page) n)
+  settled-kept : nexusAt (senderAfter e n page) n .lock ≡ true → nexusAt (senderAfter e n page) n .saved ≡ placeNumber (senderAfter e n page) (selected (senderAfter e n page) n)
   settled-kept l =
       let locked : page .lock ≡ true = sym (ap (λ (x : Nexus). x .lock) nexus-is) ∙ l in
-      ap (λ (x : Nexus). x .saved) nexus-is ∙ pick-true _ _ _ locked ∙ kept
+      ap (λ (x : Nexus). x .saved) nexus-is ∙ if-true _ _ _ locked ∙ kept
     where
-      kept : number ≡ numberAt (settled e n page) (selected (settled e n page) n)
-      kept = ap (λ p. numberAt e p) (sym selected-is) ∙ unfold settled in refl
+      kept : number ≡ placeNumber (senderAfter e n page) (selected (senderAfter e n page) n)
+      kept = ap (λ p. placeNumber e p) (sym selected-is) ∙ unfold senderAfter in refl
 
   -- the numbers are as they were
-  settled-sound : Sound (settled e n page)
-  unfolding settled
+  settled-sound : Sound (senderAfter e n page)
+  unfolding senderAfter
   settled-sound = record { low = b .sound .low; apart = b .sound .apart; born = b .sound .born }
 
   -- so what it saves tells, if it locks
-  settled-held : nexusAt (settled e n page) n .lock ≡ true → Held (record { left = selected (settled e n page) n; touched = false }) (view n (settled e n page))
+  settled-held : nexusAt (senderAfter e n page) n .lock ≡ true → Held (record { left = selected (senderAfter e n page) n; touched = false }) (view n (senderAfter e n page))
   settled-held l =
-      let s : State = settled e n page in
-      let kept : nexusAt s n .saved ≡ numberAt s (selected s n) = settled-kept l in
+      let s : State = senderAfter e n page in
+      let kept : nexusAt s n .saved ≡ placeNumber s (selected s n) = settled-kept l in
       record {
-        inside = selected-within s n (rw (settled-size e n page .places) (b .some));
+        inside = selected-within s n (rw (sender-size e n page .places) (b .some));
         drawn = omega (arith, kept, settled-sound .low (selected s n));
         still = λ t. refl;
         kept = λ t. kept;
@@ -112,7 +113,7 @@ taken-held rule n s page b w fits l =
     let a = pageActions s n page in
     let e = acts s (pageActions s n page) in
     let base : Base n (acts s (pageActions s n page)) = record { here = rw (acts-size s a .nexuses) (b .here); some = rw (acts-size s a .places) (b .some); sound = acts-sound a s fits (b .sound) } in
-    let same : Unseen n (settled e n page) (carriedOut rule s (takes n page)) =
+    let same : Unseen n (senderAfter e n page) (carriedOut rule s (takes n page)) =
     flagged-unseen n _ _ s (changes (taken s n page) n Registered) ∙ changes-unseen n n Registered (taken s n page) ∙ ap (view n) (taken-whole s n page w) in
     subst (λ (v : View). Held (record { left = v .selected; touched = false }) v) (sym same) (settled-held n page e base (sym (ap (λ (v : View). v .lock) same) ∙ l))
 

@@ -8,9 +8,10 @@ use native.Mathlib.Omega.{arith}
 use lib.Dec.{eqb, ltb}
 use lib.ListN.{length}
 use borrow.Author.Tests.{eqb-true, eqb-false, eq-eqb, ne-eqb, lt-ltb}
-use Rattle.arrays.proofs.Base.{cases, clash, pick-elim, pick-true, pick-false, or-left-false, or-right-false}
+use Rattle.arrays.proofs.Base.{cases, clash, if-elim, if-true, if-false, or-left-false, or-right-false}
 use Rattle.arrays.proofs.Laws.{read-same, read-mapFrom, find-set}
-use Rattle.device.specs.Record.{State, nexusAt, newNexus, localScope, publicScope}
+use Rattle.parameters.specs.Codes.{localScope, publicScope}
+use Rattle.device.specs.Record.{State, nexusAt, newNexus}
 use Rattle.device.specs.Updates.{withScope, numbered}
 use Rattle.device.specs.Selecting.{owns, ownedPlace, orElse, selected}
 use Rattle.device.specs.declared.Nexus.{Nexus}
@@ -20,7 +21,7 @@ use Rattle.device.proofs.Selecting.{selected-shared, selected-own}
 use Rattle.places.specs.Actions.{Action, drawn, freed, act, acts}
 use Rattle.places.proofs.Lengths.{act-size}
 use Rattle.places.proofs.Releases.{act-nexus}
-use Rattle.history.specs.History.{hits, numberAt}
+use Rattle.history.specs.History.{hits, placeNumber}
 use Rattle.history.proofs.Numbers.{Fits, Sound, on, off-number, on-number, act-counter, act-sound}
 
 -- the place that the nexus's latest page left it using, and whether a later call acted on it
@@ -41,7 +42,7 @@ abbrev pub view : ℕ → State → View
 view n s = record {
   counter = s .counter;
   places = length (s .sets);
-  number = λ place. numberAt s place;
+  number = λ place. placeNumber s place;
   lock = nexusAt s n .lock;
   saved = nexusAt s n .saved;
   selected = selected s n;
@@ -74,7 +75,7 @@ module _ {B : Type 0} (r : Nexus → B) (e : (x : Nexus) → r (withScope public
   act-nexuses : (s : State) (a : Action) → map r (act s a .nexuses) ≡ map r (s .nexuses)
   unfolding act
   act-nexuses s a =
-      read-mapFrom r (freed s (a .place)) (λ i x. pick-elim (λ y. r y ≡ r x) (eqb (selected s i) (a .place)) (λ t. e x) (λ t. refl)) 0 (s .nexuses)
+      read-mapFrom r (freed s (a .place)) (λ i x. if-elim (λ y. r y ≡ r x) (eqb (selected s i) (a .place)) (λ t. e x) (λ t. refl)) 0 (s .nexuses)
 
   -- several actions too
   pub acts-nexuses : (l : List Action) (s : State) → map r (acts s l .nexuses) ≡ map r (s .nexuses)
@@ -92,12 +93,12 @@ module _ (n : ℕ) (s : State) (a : Action) where
 
   -- the nexus falls to place 0 with its place
   fell : eqb (selected s n) (a .place) ≡ true → selected (act s a) n ≡ 0
-  fell t = selected-shared (act s a) n (ap (λ (x : Nexus). eqb (x .scope) localScope) (act-nexus s a n ∙ pick-true _ _ _ t))
+  fell t = selected-shared (act s a) n (ap (λ (x : Nexus). eqb (x .scope) localScope) (act-nexus s a n ∙ if-true _ _ _ t))
 
   -- and stays without
   stayed : owns n (a .contents) ≡ false → eqb (selected s n) (a .place) ≡ false → selected (act s a) n ≡ selected s n
   stayed o t =
-      let scope : nexusAt (act s a) n .scope ≡ nexusAt s n .scope = ap (λ (x : Nexus). x .scope) (act-nexus s a n ∙ pick-false _ _ _ t) in
+      let scope : nexusAt (act s a) n .scope ≡ nexusAt s n .scope = ap (λ (x : Nexus). x .scope) (act-nexus s a n ∙ if-false _ _ _ t) in
       cases (eqb (nexusAt s n .scope) localScope)
       (λ l.
       let local : nexusAt s n .scope ≡ localScope = eqb-true _ _ l in
@@ -117,7 +118,7 @@ module _ (n : ℕ) (m : Mark) (s : State) (a : Action) (one : Fits s 1) (h : Sou
   saved-stays = read-same (λ x. x .saved) (act s a .nexuses) (s .nexuses) newNexus (act-nexuses (λ x. x .saved) (λ x. refl) s a) n
 
   -- so it is no new number
-  not-new : (p : ℕ) → on s a p ≡ true → numberAt (act s a) p ≡ nexusAt (act s a) n .saved → ⊥
+  not-new : (p : ℕ) → on s a p ≡ true → placeNumber (act s a) p ≡ nexusAt (act s a) n .saved → ⊥
   not-new p k e = omega (arith, on-number s a one p k, saved-stays, i .drawn)
 
   still′ : (m .touched || eqb (m .left) (a .place)) ≡ false → selected (act s a) n ≡ m .left
@@ -125,16 +126,16 @@ module _ (n : ℕ) (m : Mark) (s : State) (a : Action) (one : Fits s 1) (h : Sou
       let stay : selected s n ≡ m .left = i .still (or-left-false (m .touched) _ e) in
       stayed n s a foreign (ap (λ p. eqb p (a .place)) stay ∙ or-right-false (m .touched) _ e) ∙ stay
 
-  kept′ : (m .touched || eqb (m .left) (a .place)) ≡ false → nexusAt (act s a) n .saved ≡ numberAt (act s a) (m .left)
+  kept′ : (m .touched || eqb (m .left) (a .place)) ≡ false → nexusAt (act s a) n .saved ≡ placeNumber (act s a) (m .left)
   kept′ e = saved-stays ∙ i .kept (or-left-false (m .touched) _ e) ∙ sym (off-number s a (m .left) (simp (or-right-false (m .touched) (eqb (m .left) (a .place)) e)))
 
-  moved-old : (m .touched ≡ true) → (p : ℕ) → numberAt (act s a) p ≡ nexusAt (act s a) n .saved → (nexusAt (act s a) n .saved ≡ 0) × (p ≡ m .left → ⊥)
+  moved-old : (m .touched ≡ true) → (p : ℕ) → placeNumber (act s a) p ≡ nexusAt (act s a) n .saved → (nexusAt (act s a) n .saved ≡ 0) × (p ≡ m .left → ⊥)
   moved-old t p e =
       cases (on s a p)
       (λ k. absurd (not-new p k e))
       (λ k. let r = i .moved t p (sym (off-number s a p k) ∙ e ∙ saved-stays) in (saved-stays ∙ r .0, r .1))
 
-  moved-new : (m .touched ≡ false) → eqb (m .left) (a .place) ≡ true → (p : ℕ) → numberAt (act s a) p ≡ nexusAt (act s a) n .saved → (nexusAt (act s a) n .saved ≡ 0) × (p ≡ m .left → ⊥)
+  moved-new : (m .touched ≡ false) → eqb (m .left) (a .place) ≡ true → (p : ℕ) → placeNumber (act s a) p ≡ nexusAt (act s a) n .saved → (nexusAt (act s a) n .saved ≡ 0) × (p ≡ m .left → ⊥)
   moved-new t k p e =
       cases (on s a p)
       (λ u. absurd (not-new p u e))

@@ -9,12 +9,12 @@ use borrow.Author.Tests.{not-true}
 use Rattle.arrays.proofs.Base.{cases, clash, and-left, and-right}
 use Rattle.answer.specs.Answers.{numberOf}
 use Rattle.answer.specs.declared.Answer.the-variants.{KeyInstanceChanged, ParametersNotUsable}
-use Rattle.page.specs.Fields.{encrypts}
+use Rattle.parameters.specs.Codes.{encrypts}
 use Rattle.device.specs.Record.{State, powerOn, nexusAt}
 use Rattle.device.specs.Selecting.{selected, selectedSet}
 use Rattle.places.proofs.Lengths.{power-places, power-nexuses}
 use Rattle.drive.specs.Calls.{Call}
-use Rattle.drive.specs.Answers.{due, firstOf}
+use Rattle.drive.specs.Checks.{answerIf, firstOf}
 use Rattle.drive.specs.Effects.{effect}
 use Rattle.drive.specs.After.{byNumber, actions, after}
 use Rattle.drive.specs.Runs.{runFrom, run}
@@ -97,7 +97,7 @@ run-good n k s calls b f x =
 -- ---- the write
 
 -- checks 11 and 12 answer 11 exactly if check 11 finds a fault
-own-eleven : (a b : Bool) → eqb (numberOf (firstOf (due a KeyInstanceChanged ∷ due b ParametersNotUsable ∷ []))) 11 ≡ a
+own-eleven : (a b : Bool) → eqb (numberOf (firstOf (answerIf a KeyInstanceChanged ∷ answerIf b ParametersNotUsable ∷ []))) 11 ≡ a
 own-eleven true b = refl
 own-eleven false true = refl
 own-eleven false false = refl

@@ -5,17 +5,17 @@ use mathlib.Core.Bool.{Bool, true, false}
 use mathlib.Core.List.{[], map}
 use mathlib.Core.Path.{_≡_, refl, sym, _∙_, ap}
 use lib.Seq.{map-set-same}
-use Rattle.arrays.proofs.Base.{cases, clash, pick-true, pick-false}
+use Rattle.arrays.proofs.Base.{cases, clash, if-true, if-false}
 use Rattle.page.specs.declared.Page.{Page}
 use Rattle.device.specs.Record.{State, setAt, noSet}
 use Rattle.device.specs.Updates.{withSupplemental}
 use Rattle.device.specs.Selecting.{selected}
-use Rattle.device.specs.declared.Supplemental.{Supplemental}
+use Rattle.parameters.specs.declared.Supplemental.{Supplemental}
 use Rattle.device.specs.declared.Set.{Set}
 use Rattle.marks.specs.Marks.{changes, flagged}
 use Rattle.marks.specs.Reset.{cleared}
 use Rattle.marks.specs.declared.Actor.{Actor}
-use Rattle.places.specs.Actions.{acts, pageActions, settled, appended, supplemented, taken}
+use Rattle.places.specs.Actions.{acts, pageActions, senderAfter, appended, supplemented, taken}
 use Rattle.drive.specs.Effects.{Effect, nothing, marks, takes, clears, releasing, restarts}
 use Rattle.drive.specs.After.{actionsOf, changedBy, Telling, carriedOut}
 use Rattle.drive.proofs.Effects.{isRestart}
@@ -25,21 +25,21 @@ use Rattle.drive.proofs.Effects.{isRestart}
 -- a supplemental key does nothing to the places
 pub supplemental-actions : (s : State) (n : ℕ) (page : Page) → page .supplemental ≡ true → pageActions s n page ≡ []
 unfolding pageActions
-supplemental-actions s n page e = pick-true _ _ _ e
+supplemental-actions s n page e = if-true _ _ _ e
 
 -- how it is taken
 pub taken-supplemental : (s : State) (n : ℕ) (page : Page) → page .supplemental ≡ true → taken s n page ≡ supplemented s n page
 unfolding taken
-taken-supplemental s n page e = pick-true _ _ _ e
+taken-supplemental s n page e = if-true _ _ _ e
 
 -- and any other page
-pub taken-whole : (s : State) (n : ℕ) (page : Page) → page .supplemental ≡ false → taken s n page ≡ settled (acts s (pageActions s n page)) n page
+pub taken-whole : (s : State) (n : ℕ) (page : Page) → page .supplemental ≡ false → taken s n page ≡ senderAfter (acts s (pageActions s n page)) n page
 unfolding taken
-taken-whole s n page e = pick-false _ _ _ e
+taken-whole s n page e = if-false _ _ _ e
 
 -- the counter
 taken-counter : (s : State) (n : ℕ) (page : Page) → taken s n page .counter ≡ acts s (pageActions s n page) .counter
-unfolding supplemented settled acts
+unfolding supplemented senderAfter acts
 taken-counter s n page =
     cases (page .supplemental)
     (λ t. ap (λ (x : State). x .counter) (taken-supplemental s n page t) ∙ ap (λ l. acts s l .counter) (sym (supplemental-actions s n page t)))
@@ -55,7 +55,7 @@ module _ {B : Type 0} (r : Set → B) (e : (k : Supplemental) (x : Set) → r (w
 
   -- and a page leaves it as its actions do
   taken-same : (s : State) (n : ℕ) (page : Page) → map r (taken s n page .sets) ≡ map r (acts s (pageActions s n page) .sets)
-  unfolding settled acts
+  unfolding senderAfter acts
   taken-same s n page =
       cases (page .supplemental)
       (λ t.

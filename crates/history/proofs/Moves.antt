@@ -6,14 +6,15 @@ use mathlib.Core.List.{List, [], _∷_, map}
 use mathlib.Core.Path.{_≡_, refl, sym, _∙_, ap, ap₂, subst}
 use lib.Dec.{eqb}
 use lib.ListN.{length, set, length-map}
-use Rattle.arrays.specs.Base.{pick}
+use Rattle.arrays.specs.Base.{if_then_else_}
 use Rattle.arrays.specs.Arrays.{mapFrom}
-use Rattle.arrays.proofs.Base.{pick-map}
+use Rattle.arrays.proofs.Base.{if-map}
 use Rattle.arrays.proofs.Laws.{map-set, map-mapFrom, map-over, read-same}
 use Rattle.answer.specs.declared.Change.{Change}
 use Rattle.answer.specs.declared.Change.the-variants.{Registered}
 use Rattle.page.specs.declared.Page.{Page}
-use Rattle.device.specs.Record.{State, setAt, nexusAt, noSet, newNexus, publicScope, noMarks}
+use Rattle.parameters.specs.Codes.{publicScope}
+use Rattle.device.specs.Record.{State, setAt, nexusAt, noSet, newNexus, noMarks}
 use Rattle.device.specs.Updates.{registered, withMarks, withScope, numbered, withSupplemental, atNexus, mapped}
 use Rattle.device.specs.Selecting.{selected, selectedSet}
 use Rattle.device.specs.WellFormed.{wellFormed}
@@ -24,7 +25,7 @@ use Rattle.marks.specs.Marks.{remarked, changed, changes, told, alerted, isActo
 use Rattle.marks.specs.Reset.{unmarked, cleared}
 use Rattle.marks.specs.declared.Actor.{Actor}
 use Rattle.marks.specs.declared.Actor.the-variants.{Acting}
-use Rattle.places.specs.Actions.{Action, drawn, freed, act, acts, releases, releasedBy, pageActions, settledNexus, settled, appended, supplemented, taken}
+use Rattle.places.specs.Actions.{Action, drawn, freed, act, acts, releases, releasedBy, pageActions, nexusAfter, senderAfter, appended, supplemented, taken}
 use Rattle.drive.specs.Calls.{Call}
 use Rattle.drive.specs.Effects.{Effect, nothing, marks, takes, clears, releasing, restarts, effect}
 use Rattle.drive.specs.After.{actionsOf, changedBy, actorOf, Telling, carriedOut}
@@ -38,7 +39,7 @@ pub record Moves (c : ℕ → ℕ) (f : Set → Set) (g : Nexus → Nexus) : Typ
   pub extends : (key : List ℕ) (x y : Set) → f x ≡ f y → f (withSupplemental (appended key (x .supplemental)) x) ≡ f (withSupplemental (appended key (y .supplemental)) y)
   pub scopes : (scope : ℕ) (x : Nexus) → g (withScope scope x) ≡ withScope scope (g x)
   pub remarks : (marks : Marks) (x : Nexus) → g (withMarks marks x) ≡ withMarks marks (g x)
-  pub settles : (page : Page) (a b : Set) (x y : Nexus) → f a ≡ f b → g x ≡ g y → g (settledNexus page (a .number) x) ≡ g (settledNexus page (b .number) y)
+  pub settles : (page : Page) (a b : Set) (x y : Nexus) → f a ≡ f b → g x ≡ g y → g (nexusAfter page (a .number) x) ≡ g (nexusAfter page (b .number) y)
 
 module _ (c : ℕ → ℕ) (f : Set → Set) (g : Nexus → Nexus) (k : Keeps f g) (m : Moves c f g) where
   -- the maps make them the same
@@ -76,9 +77,9 @@ module _ (c : ℕ → ℕ) (f : Set → Set) (g : Nexus → Nexus) (k : Keeps f 
   same-marks x y e = sym (k .marks x) ∙ ap (λ z. z .marks) e ∙ k .marks y
 
   -- where one of two is picked
-  pick-alike : (b : Bool) (s t u v : State) → Alike s u → Alike t v → Alike (pick b s t) (pick b u v)
-  pick-alike true s t u v a b = a
-  pick-alike false s t u v a b = b
+  if-alike : (b : Bool) (s t u v : State) → Alike s u → Alike t v → Alike (if b then s else t) (if b then u else v)
+  if-alike true s t u v a b = a
+  if-alike false s t u v a b = b
 
   -- a nexus made anew
   at-alike : (n : ℕ) (u v : Nexus → Nexus) (s t : State) → (g (nexusAt s n) ≡ g (nexusAt t n) → g (u (nexusAt s n)) ≡ g (v (nexusAt t n))) → Alike s t → Alike (atNexus n u s) (atNexus n v t)
@@ -121,13 +122,13 @@ module _ (c : ℕ → ℕ) (f : Set → Set) (g : Nexus → Nexus) (k : Keeps f 
         ∙ sym (map-set f (t .sets) (x .place) (numbered (drawn (t .counter)) (x .contents)));
     nexuses =
         each-alike (freed s (x .place)) (freed t (x .place))
-        (λ i y. free s i y ∙ ap (λ p. pick (eqb p (x .place)) (withScope publicScope (g y)) (g y)) (same-selected i s t a))
+        (λ i y. free s i y ∙ ap (λ p. if eqb p (x .place) then withScope publicScope (g y) else g y) (same-selected i s t a))
         (λ i y. free t i y)
         (s .nexuses) (t .nexuses) (a .nexuses);
   }
     where
       free : (s : State) (i : ℕ) (y : Nexus) → g (freed s (x .place) i y) ≡ freed s (x .place) i (g y)
-      free s i y = pick-map g (eqb (selected s i) (x .place)) _ _ ∙ ap (λ (z : Nexus). pick (eqb (selected s i) (x .place)) z (g y)) (m .scopes publicScope y)
+      free s i y = if-map g (eqb (selected s i) (x .place)) _ _ ∙ ap (λ (z : Nexus). if eqb (selected s i) (x .place) then z else g y) (m .scopes publicScope y)
 
   -- several
   acts-alike : (l : List Action) (s t : State) → Alike s t → Alike (acts s l) (acts t l)
@@ -135,16 +136,16 @@ module _ (c : ℕ → ℕ) (f : Set → Set) (g : Nexus → Nexus) (k : Keeps f 
   acts-alike [] s t a = a
   acts-alike (x ∷ l) s t a = acts-alike l (act s x) (act t x) (act-alike x s t a)
 
-  -- the sender settled
-  settled-alike : (n : ℕ) (page : Page) (s t : State) → Alike s t → Alike (settled s n page) (settled t n page)
-  unfolding settled
-  settled-alike n page s t a =
+  -- the sender after its page
+  sender-alike : (n : ℕ) (page : Page) (s t : State) → Alike s t → Alike (senderAfter s n page) (senderAfter t n page)
+  unfolding senderAfter
+  sender-alike n page s t a =
       let scoped : Alike (atNexus n (withScope (page .scope)) s) (atNexus n (withScope (page .scope)) t) =
       at-alike n (withScope (page .scope)) (withScope (page .scope)) s t (λ e. m .scopes _ _ ∙ ap (withScope (page .scope)) e ∙ sym (m .scopes _ _)) a in
       let q : State → Set = λ x. selectedSet (atNexus n (withScope (page .scope)) x) n in
       let p = same-selected n _ _ scoped in
       let number : f (q s) ≡ f (q t) = ap (λ i. f (setAt s i)) p ∙ same-set _ s t a in
-      at-alike n (settledNexus page (q s .number)) (settledNexus page (q t .number)) s t (m .settles page (q s) (q t) (nexusAt s n) (nexusAt t n) number) a
+      at-alike n (nexusAfter page (q s .number)) (nexusAfter page (q t .number)) s t (m .settles page (q s) (q t) (nexusAt s n) (nexusAt t n) number) a
 
   -- a supplemental key
   supplemented-alike : (n : ℕ) (page : Page) (s t : State) → Alike s t → Alike (supplemented s n page) (supplemented t n page)
@@ -168,7 +169,7 @@ module _ (c : ℕ → ℕ) (f : Set → Set) (g : Nexus → Nexus) (k : Keeps f 
   taken-alike n page s t a =
       let done : Alike (acts s (pageActions s n page)) (acts t (pageActions t n page)) =
       rw (through (λ x. pageActions x n page) s t (keeps.page-actions-kept f g k c s n page) (keeps.page-actions-kept f g k c t n page) a) (acts-alike (pageActions t n page) s t a) in
-      pick-alike (page .supplemental) _ _ _ _ (supplemented-alike n page s t a) (settled-alike n page _ _ done)
+      if-alike (page .supplemental) _ _ _ _ (supplemented-alike n page s t a) (sender-alike n page _ _ done)
 
   -- the flags, where they tell the same
   flagged-alike : (p q : ℕ → Bool) (actor : Actor) (s u t v : State) → ((n : ℕ) → p n ≡ q n) → Alike s t → Alike u v → Alike (flagged p actor s u) (flagged q actor t v)

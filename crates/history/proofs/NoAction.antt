@@ -9,18 +9,19 @@ use native.Mathlib.Omega.{arith}
 use lib.Dec.{eqb}
 use lib.ListN.{getD}
 use borrow.Author.Tests.{eqb-true, ne-eqb}
-use Rattle.arrays.specs.Base.{pick}
+use Rattle.arrays.specs.Base.{if_then_else_}
 use Rattle.arrays.specs.Arrays.{foldFrom, find}
-use Rattle.arrays.proofs.Base.{cases, clash, and-left, pick-elim, pick-true, pick-false, or-left-false}
+use Rattle.arrays.proofs.Base.{cases, clash, and-left, if-elim, if-true, if-false, or-left-false}
 use Rattle.arrays.proofs.Laws.{find-by}
-use Rattle.page.specs.declared.Fields.{Fields}
+use Rattle.parameters.specs.declared.Fields.{Fields}
 use Rattle.page.specs.declared.Page.{Page}
-use Rattle.device.specs.Record.{State, setAt, nexusAt, noSet, empty, used, localScope, allScope}
+use Rattle.parameters.specs.Codes.{localScope, allScope}
+use Rattle.device.specs.Record.{State, setAt, nexusAt, noSet, empty, used}
 use Rattle.device.specs.Selecting.{owns, ownedPlace}
 use Rattle.device.specs.declared.Set.{Set}
 use Rattle.device.specs.declared.Found.{Found}
 use Rattle.device.specs.declared.Found.the-variants.{At, Nowhere}
-use Rattle.places.specs.Actions.{release, establish, releases, ownPlace, releaseFound, releaseOwn, emptyLocal, unlockedLocal, freeAt, takenAt, room, establishIn, pageActions, releasedBy}
+use Rattle.places.specs.Actions.{release, establish, releases, ownPlace, releaseFound, releaseOwn, emptyLocal, unlockedLocal, freeAt, evictingAt, room, establishIn, pageActions, releasedBy}
 use Rattle.places.specs.declared.Event.{Event}
 use Rattle.drive.specs.Effects.{Effect, nothing, marks, takes, clears, releasing, restarts}
 use Rattle.drive.specs.After.{actionsOf}
@@ -34,12 +35,12 @@ supplemental-no-action = supplemental-actions
 
 module _ (picked : ℕ → Set → Bool) (place : ℕ) where
   -- from any place on
-  missed-from : (l : List Set) (k : ℕ) → ((i : ℕ) → place ≡ k + i → empty (getD l i noSet) ≡ true) → hits place (foldFrom (λ p set rest. pick (used set && picked p set) (release p ∷ rest) rest) [] k l) ≡ false
+  missed-from : (l : List Set) (k : ℕ) → ((i : ℕ) → place ≡ k + i → empty (getD l i noSet) ≡ true) → hits place (foldFrom (λ p set rest. if used set && picked p set then release p ∷ rest else rest) [] k l) ≡ false
   unfolding hits
   missed-from [] k h = refl
   missed-from (x ∷ l) k h =
       let rest = missed-from l (suc k) (λ i e. h (suc i) (omega arith)) in
-      pick-elim (λ a. hits place a ≡ false) (used x && picked k x)
+      if-elim (λ a. hits place a ≡ false) (used x && picked k x)
       (λ t. ap₂ _||_ (ne-eqb place k (λ e. clash (and-left (used x) _ t) (ap not (h 0 (omega arith))))) rest)
       (λ t. rest)
 
@@ -76,12 +77,12 @@ find-later p l e =
 own-later : (s : State) (n : ℕ) → empty (setAt s 0) ≡ true → Later (ownPlace s n)
 unfolding ownPlace ownedPlace hits
 own-later s n e =
-    pick-elim Later (eqb (nexusAt s n .scope) localScope)
+    if-elim Later (eqb (nexusAt s n .scope) localScope)
     (λ t. find-later (λ place. owns n) (s .sets) (ap (λ k. eqb k localScope && eqb (setAt s 0 .owner) n) (eqb-true (setAt s 0 .scope) 0 e)))
     (λ t. refl)
 
 -- a LOCAL page takes one of three that are found
-rooms : (own free lent : Found) (n : ℕ) (fields : Fields) → Later own → Later free → Later lent → hits 0 (establishIn (freeAt own (freeAt free (takenAt lent))) n fields) ≡ false
+rooms : (own free lent : Found) (n : ℕ) (fields : Fields) → Later own → Later free → Later lent → hits 0 (establishIn (freeAt own (freeAt free (evictingAt lent))) n fields) ≡ false
 unfolding hits
 rooms (At k) free lent n fields a b c = a
 rooms Nowhere (At k) lent n fields a b c = b
@@ -101,12 +102,12 @@ page-establishes : (s : State) (n : ℕ) (page : Page) → empty (setAt s 0) ≡
 unfolding pageActions hits
 page-establishes s n page e h =
     cases (page .supplemental)
-    (λ t. clash h (ap (hits 0) (pick-true _ _ _ t)))
+    (λ t. clash h (ap (hits 0) (if-true _ _ _ t)))
     (λ t. cases (eqb (page .scope) localScope)
-    (λ l. clash h (ap (hits 0) (pick-false _ _ _ t ∙ pick-true _ _ _ l) ∙ room-later s n (page .fields) e))
+    (λ l. clash h (ap (hits 0) (if-false _ _ _ t ∙ if-true _ _ _ l) ∙ room-later s n (page .fields) e))
     (λ l. cases (eqb (page .scope) allScope)
-    (λ a. (t, pick-false _ _ _ t ∙ pick-false _ _ _ l ∙ pick-true _ _ _ a))
-    (λ a. clash h (ap (hits 0) (pick-false _ _ _ t ∙ pick-false _ _ _ l ∙ pick-false _ _ _ a) ∙ own-later s n e))))
+    (λ a. (t, if-false _ _ _ t ∙ if-false _ _ _ l ∙ if-true _ _ _ a))
+    (λ a. clash h (ap (hits 0) (if-false _ _ _ t ∙ if-false _ _ _ l ∙ if-false _ _ _ a) ∙ own-later s n e))))
 
 -- place 0 while it is empty is acted on only by being established
 pub default-only-replaced : (s : State) (e : Effect) → empty (setAt s 0) ≡ true → hits 0 (actionsOf s e) ≡ true → Establishes s e

@@ -8,13 +8,13 @@ use native.Mathlib.Omega.{arith}
 use lib.Dec.{eqb, ltb}
 use lib.ListN.{length, getD, replicate}
 use borrow.Author.Tests.{eqb-true, eq-eqb, ne-eqb, lt-ltb}
-use Rattle.arrays.specs.Base.{pick}
-use Rattle.arrays.proofs.Base.{cases, clash, and-left, pick-true, pick-false, or-left-false, or-right-false}
+use Rattle.arrays.specs.Base.{if_then_else_}
+use Rattle.arrays.proofs.Base.{cases, clash, and-left, if-true, if-false, or-left-false, or-right-false}
 use Rattle.arrays.proofs.Laws.{getD-set, read-same}
 use Rattle.device.specs.Record.{State, powerOn, setAt, noSet, emptySet}
 use Rattle.device.specs.Updates.{numbered, withSupplemental}
 use Rattle.device.specs.Selecting.{selected}
-use Rattle.device.specs.declared.Supplemental.{Supplemental}
+use Rattle.parameters.specs.declared.Supplemental.{Supplemental}
 use Rattle.device.specs.declared.Set.{Set}
 use Rattle.device.proofs.Selecting.{selected-within}
 use Rattle.marks.specs.Marks.{differs, flagged}
@@ -23,7 +23,7 @@ use Rattle.places.proofs.Lengths.{act-size}
 use Rattle.drive.specs.Effects.{Effect}
 use Rattle.drive.specs.After.{actionsOf, changedBy, Telling, carriedOut}
 use Rattle.drive.proofs.Effects.{isRestart, restart-is}
-use Rattle.history.specs.History.{hits, numberAt, Low}
+use Rattle.history.specs.History.{hits, placeNumber, Low}
 use Rattle.history.proofs.Left.{changed-same, changed-counter, told-same}
 
 -- that many more draws stay below the wrap
@@ -32,9 +32,9 @@ Fits s k = s .counter + k < 2 ^ 32
 
 -- no number is above the counter, two places never share one that was drawn, and a place that has none was never used
 pub record Sound (s : State) : Type 0 where
-  pub low : (p : ℕ) → numberAt s p ≤ s .counter
-  pub apart : (p q : ℕ) → numberAt s p ≡ numberAt s q → (p ≡ q → ⊥) → numberAt s p ≡ 0
-  pub born : (p : ℕ) → numberAt s p ≡ 0 → setAt s p .scope ≡ 0
+  pub low : (p : ℕ) → placeNumber s p ≤ s .counter
+  pub apart : (p q : ℕ) → placeNumber s p ≡ placeNumber s q → (p ≡ q → ⊥) → placeNumber s p ≡ 0
+  pub born : (p : ℕ) → placeNumber s p ≡ 0 → setAt s p .scope ≡ 0
 
 -- ---- actions
 
@@ -44,16 +44,16 @@ module _ (s : State) (a : Action) where
   on place = eqb place (a .place) && ltb (a .place) (length (s .sets))
 
   -- the set of a place after the action
-  act-set : (place : ℕ) → setAt (act s a) place ≡ pick (on place) (numbered (drawn (s .counter)) (a .contents)) (setAt s place)
+  act-set : (place : ℕ) → setAt (act s a) place ≡ if on place then numbered (drawn (s .counter)) (a .contents) else setAt s place
   unfolding act
   act-set place = getD-set (s .sets) (a .place) place (numbered (drawn (s .counter)) (a .contents)) noSet
 
   -- elsewhere it stays
   off-set : (place : ℕ) → on place ≡ false → setAt (act s a) place ≡ setAt s place
-  off-set place e = act-set place ∙ pick-false _ _ _ e
+  off-set place e = act-set place ∙ if-false _ _ _ e
 
   -- and so does the number
-  pub off-number : (place : ℕ) → on place ≡ false → numberAt (act s a) place ≡ numberAt s place
+  pub off-number : (place : ℕ) → on place ≡ false → placeNumber (act s a) place ≡ placeNumber s place
   off-number place e = ap (λ (x : Set). x .number) (off-set place e)
 
   module _ (fits : Fits s 1) where
@@ -66,17 +66,17 @@ module _ (s : State) (a : Action) where
     act-counter = step
 
     -- the place takes the new number
-    pub on-number : (place : ℕ) → on place ≡ true → numberAt (act s a) place ≡ suc (s .counter)
-    on-number place e = ap (λ (x : Set). x .number) (act-set place ∙ pick-true _ _ _ e) ∙ step
+    pub on-number : (place : ℕ) → on place ≡ true → placeNumber (act s a) place ≡ suc (s .counter)
+    on-number place e = ap (λ (x : Set). x .number) (act-set place ∙ if-true _ _ _ e) ∙ step
 
     module _ (h : Sound s) where
-      low′ : (p : ℕ) → numberAt (act s a) p ≤ act s a .counter
+      low′ : (p : ℕ) → placeNumber (act s a) p ≤ act s a .counter
       low′ p =
           cases (on p)
           (λ e. omega (arith, on-number p e, act-counter))
           (λ e. omega (arith, off-number p e, act-counter, h .low p))
 
-      apart′ : (p q : ℕ) → numberAt (act s a) p ≡ numberAt (act s a) q → (p ≡ q → ⊥) → numberAt (act s a) p ≡ 0
+      apart′ : (p q : ℕ) → placeNumber (act s a) p ≡ placeNumber (act s a) q → (p ≡ q → ⊥) → placeNumber (act s a) p ≡ 0
       apart′ p q e ne =
           cases (on p)
           (λ ep. cases (on q)
@@ -86,7 +86,7 @@ module _ (s : State) (a : Action) where
           (λ eq. omega (arith, on-number q eq, off-number p ep, h .low p))
           (λ eq. off-number p ep ∙ h .apart p q (sym (off-number p ep) ∙ e ∙ off-number q eq) ne))
 
-      born′ : (p : ℕ) → numberAt (act s a) p ≡ 0 → setAt (act s a) p .scope ≡ 0
+      born′ : (p : ℕ) → placeNumber (act s a) p ≡ 0 → setAt (act s a) p .scope ≡ 0
       born′ p z =
           cases (on p)
           (λ e. omega (arith, on-number p e))
@@ -132,7 +132,7 @@ power-sound nexuses places =
     }
 
 -- what holds of the numbers depends on the counter and on each set's number and scope
-sound-same : (s t : State) → t .counter ≡ s .counter → ((p : ℕ) → numberAt t p ≡ numberAt s p) → ((p : ℕ) → setAt t p .scope ≡ setAt s p .scope) → Sound s → Sound t
+sound-same : (s t : State) → t .counter ≡ s .counter → ((p : ℕ) → placeNumber t p ≡ placeNumber s p) → ((p : ℕ) → setAt t p .scope ≡ setAt s p .scope) → Sound s → Sound t
 sound-same s t c n o h = record {
   low = λ p. omega (arith, n p, h .low p);
   apart = λ p q e ne. n p ∙ h .apart p q (sym (n p) ∙ e ∙ n q) ne;
@@ -172,7 +172,7 @@ module _ (rule : Telling) (s : State) (e : Effect) where
 -- ---- whose number differs
 
 -- a place that no action is on keeps its number
-missed : (l : List Action) (s : State) (place : ℕ) → hits place l ≡ false → numberAt (acts s l) place ≡ numberAt s place
+missed : (l : List Action) (s : State) (place : ℕ) → hits place l ≡ false → placeNumber (acts s l) place ≡ placeNumber s place
 unfolding acts hits
 missed [] s place h = refl
 missed (a ∷ l) s place h =
@@ -180,7 +180,7 @@ missed (a ∷ l) s place h =
     missed l (act s a) place (or-right-false (eqb place (a .place)) (hits place l) h) ∙ off-number s a place (simp off)
 
 -- a place that an action is on has a new number
-renewed : (l : List Action) (s : State) (place : ℕ) → place < length (s .sets) → Fits s (length l) → hits place l ≡ true → s .counter < numberAt (acts s l) place
+renewed : (l : List Action) (s : State) (place : ℕ) → place < length (s .sets) → Fits s (length l) → hits place l ≡ true → s .counter < placeNumber (acts s l) place
 unfolding acts hits
 renewed [] s place within fits h = clash h refl
 renewed (a ∷ l) s place within fits h =
@@ -199,20 +199,20 @@ renewed (a ∷ l) s place within fits h =
     there e = lt-ltb (a .place) (length (s .sets)) (rw (eqb-true place (a .place) e) at within)
 
 -- so a place's number differs exactly where an action was on it
-renumbered : (l : List Action) (s : State) (place : ℕ) → place < length (s .sets) → Low s (length l) → not (eqb (numberAt s place) (numberAt (acts s l) place)) ≡ hits place l
+renumbered : (l : List Action) (s : State) (place : ℕ) → place < length (s .sets) → Low s (length l) → not (eqb (placeNumber s place) (placeNumber (acts s l) place)) ≡ hits place l
 renumbered l s place within w =
     cases (hits place l)
-    (λ t. ap not (ne-eqb (numberAt s place) (numberAt (acts s l) place) (λ e. omega (arith, renewed l s place within (w .fits) t, w .low place, e))) ∙ sym t)
+    (λ t. ap not (ne-eqb (placeNumber s place) (placeNumber (acts s l) place) (λ e. omega (arith, renewed l s place within (w .fits) t, w .low place, e))) ∙ sym t)
     (λ t. ap not (eq-eqb _ _ (sym (missed l s place t))) ∙ sym t)
 
 -- and what a nexus uses differs exactly where its place does or an action was on it
-pub differs-hits : (l : List Action) (s t : State) (n : ℕ) → Low s (length l) → ((place : ℕ) → numberAt t place ≡ numberAt (acts s l) place)
+pub differs-hits : (l : List Action) (s t : State) (n : ℕ) → Low s (length l) → ((place : ℕ) → placeNumber t place ≡ placeNumber (acts s l) place)
     → differs s t n ≡ (not (eqb (selected s n) (selected t n)) || hits (selected s n) l)
 differs-hits l s t n w same =
     cases (eqb (selected s n) (selected t n))
     (λ e.
     let here : selected t n ≡ selected s n = sym (eqb-true _ _ e) in
-    let now : numberAt t (selected t n) ≡ numberAt (acts s l) (selected s n) = ap (numberAt t) here ∙ same (selected s n) in
-    ap (λ k. not (eqb (selected s n) (selected t n)) || not (eqb (numberAt s (selected s n)) k)) now
+    let now : placeNumber t (selected t n) ≡ placeNumber (acts s l) (selected s n) = ap (placeNumber t) here ∙ same (selected s n) in
+    ap (λ k. not (eqb (selected s n) (selected t n)) || not (eqb (placeNumber s (selected s n)) k)) now
     ∙ ap (λ b. not (eqb (selected s n) (selected t n)) || b) (renumbered l s (selected s n) (selected-within s n (w .some)) w))
     (λ e. simp e)

@@ -8,14 +8,15 @@ use lib.ListN.{length, getD}
 use lib.Seq.{map-set-same, getD-set-other}
 use lib.Dec.{eqb}
 use borrow.Author.Tests.{eqb-false}
-use Rattle.arrays.specs.Base.{pick}
-use Rattle.arrays.proofs.Base.{cases, clash, pick-elim}
+use Rattle.arrays.specs.Base.{if_then_else_}
+use Rattle.arrays.proofs.Base.{cases, clash, if-elim}
 use Rattle.arrays.proofs.Laws.{read-same, read-map, read-mapFrom, same-length, find-same}
 use Rattle.answer.specs.declared.Change.{Change}
 use Rattle.answer.specs.declared.Change.the-variants.{Registered}
-use Rattle.page.specs.declared.Fields.{Fields}
+use Rattle.parameters.specs.declared.Fields.{Fields}
 use Rattle.page.specs.declared.Page.{Page}
-use Rattle.device.specs.Record.{State, nexusAt, noSet, newNexus, localScope, allScope}
+use Rattle.parameters.specs.Codes.{localScope, allScope}
+use Rattle.device.specs.Record.{State, nexusAt, noSet, newNexus}
 use Rattle.device.specs.Updates.{withNexuses}
 use Rattle.device.specs.Selecting.{owns, ownedPlace, orElse, selected}
 use Rattle.device.specs.declared.Nexus.{Nexus}
@@ -24,14 +25,14 @@ use Rattle.device.specs.declared.Found.the-variants.{At, Nowhere}
 use Rattle.marks.specs.Marks.{remarked, changed, changes, told, alerted, flagged}
 use Rattle.marks.specs.Reset.{unmarked, cleared}
 use Rattle.marks.specs.declared.Actor.{Actor}
-use Rattle.places.specs.Actions.{Action, acts, ownPlace, releaseFound, releaseOwn, room, establishIn, pageActions, settled, supplemented, taken, releasedBy}
+use Rattle.places.specs.Actions.{Action, acts, ownPlace, releaseFound, releaseOwn, room, establishIn, pageActions, senderAfter, supplemented, taken, releasedBy}
 use Rattle.places.specs.declared.Room.{Room}
-use Rattle.places.specs.declared.Room.the-variants.{Free, Taken, NoRoom}
+use Rattle.places.specs.declared.Room.the-variants.{Free, Evicting, NoRoom}
 use Rattle.places.proofs.Releases.{releases-elim}
 use Rattle.drive.specs.Effects.{Effect, nothing, marks, takes, clears, releasing, restarts}
 use Rattle.drive.specs.After.{actionsOf, changedBy, Telling, carriedOut}
 use Rattle.drive.proofs.Effects.{isRestart}
-use Rattle.history.specs.History.{accepts, numberAt}
+use Rattle.history.specs.History.{accepts, placeNumber}
 use Rattle.history.proofs.Left.{told-same, supplemented-same, supplemental-actions, taken-supplemental, taken-whole}
 use Rattle.history.proofs.Held.{View, view, Foreign, acts-nexuses}
 
@@ -54,10 +55,10 @@ unfolding selected
 nexus-unseen n s l e = λ i. record {
   counter = s .counter;
   places = length (s .sets);
-  number = λ place. numberAt s place;
+  number = λ place. placeNumber s place;
   lock = e i .lock;
   saved = e i .saved;
-  selected = pick (eqb (e i .scope) localScope) (orElse (ownedPlace (s .sets) n) 0) 0;
+  selected = if eqb (e i .scope) localScope then orElse (ownedPlace (s .sets) n) 0 else 0;
 }
 
 -- so may all, where that much of each stays
@@ -84,7 +85,7 @@ cleared-unseen n s = nexuses-unseen n s _ (read-map part unmarked (λ x. refl) (
 supplemented-unseen : (n m : ℕ) (page : Page) (s : State) → Unseen n s (supplemented s m page)
 unfolding supplemented selected ownedPlace
 supplemented-unseen n m page s =
-    let number : (place : ℕ) → numberAt (supplemented s m page) place ≡ numberAt s place =
+    let number : (place : ℕ) → placeNumber (supplemented s m page) place ≡ placeNumber s place =
     read-same (λ x. x .number) (supplemented s m page .sets) (s .sets) noSet (supplemented-same (λ x. x .number) (λ k x. refl) s m page) in
     let size = same-length (λ x. x .scope) (supplemented s m page .sets) (s .sets) (supplemented-same (λ x. x .scope) (λ k x. refl) s m page) in
     let own : ownedPlace (supplemented s m page .sets) n ≡ ownedPlace (s .sets) n = find-same At Nowhere (owns n) (supplemented s m page .sets) (s .sets) (supplemented-same (owns n) (λ k x. refl) s m page) in
@@ -94,12 +95,12 @@ supplemented-unseen n m page s =
       number = λ place. number place i;
       lock = nexusAt s n .lock;
       saved = nexusAt s n .saved;
-      selected = pick (eqb (nexusAt s n .scope) localScope) (orElse (own i) 0) 0;
+      selected = if eqb (nexusAt s n .scope) localScope then orElse (own i) 0 else 0;
     }
 
--- nor another nexus settled
-settled-unseen : (n m : ℕ) (page : Page) (s : State) → eqb m n ≡ false → Unseen n s (settled s m page)
-unfolding settled
+-- nor another sender after its page
+settled-unseen : (n m : ℕ) (page : Page) (s : State) → eqb m n ≡ false → Unseen n s (senderAfter s m page)
+unfolding senderAfter
 settled-unseen n m page s e = nexus-unseen n s _ (ap part (getD-set-other (s .nexuses) m n _ newNexus (λ x. eqb-false m n e (sym x))))
 
 -- a page that isn't supplemental is another's
@@ -149,17 +150,17 @@ foreign-found n Nowhere = tt
 -- another's LOCAL page
 foreign-room : (n m : ℕ) (r : Room) (fields : Fields) → eqb m n ≡ false → Foreign n (establishIn r m fields)
 foreign-room n m (Free place) fields e = (e, tt)
-foreign-room n m (Taken place) fields e = (refl, (e, tt))
+foreign-room n m (Evicting place) fields e = (refl, (e, tt))
 foreign-room n m NoRoom fields e = tt
 
 -- another's page, or a supplemental one
 foreign-page : (n m : ℕ) (s : State) (page : Page) → (eqb m n && not (page .supplemental)) ≡ false → Foreign n (pageActions s m page)
 unfolding pageActions
 foreign-page n m s page e =
-    pick-elim (Foreign n) (page .supplemental) (λ t. tt)
-    (λ t. pick-elim (Foreign n) (eqb (page .scope) localScope)
+    if-elim (Foreign n) (page .supplemental) (λ t. tt)
+    (λ t. if-elim (Foreign n) (eqb (page .scope) localScope)
     (λ l. foreign-room n m (room s m) (page .fields) (other-sender m n page e t))
-    (λ l. pick-elim (Foreign n) (eqb (page .scope) allScope)
+    (λ l. if-elim (Foreign n) (eqb (page .scope) allScope)
     (λ a. foreign-append n (releaseOwn s m) _ (foreign-found n (ownPlace s m)) (refl, tt))
     (λ a. foreign-found n (ownPlace s m))))
 

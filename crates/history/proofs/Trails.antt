@@ -8,8 +8,8 @@ use native.Mathlib.Nat.{zero-add, suc-add, add-suc, add-zero}
 use native.Mathlib.Omega.{arith}
 use lib.ListN.{length}
 use borrow.Author.Tests.{not-true}
-use Rattle.arrays.specs.Base.{pick}
-use Rattle.arrays.proofs.Base.{cases, clash, and-left, and-right, pick-true, pick-false}
+use Rattle.arrays.specs.Base.{if_then_else_}
+use Rattle.arrays.proofs.Base.{cases, clash, and-left, and-right, if-true, if-false}
 use Rattle.device.specs.declared.Found.{Found}
 use Rattle.device.specs.declared.Found.the-variants.{At, Nowhere}
 use Rattle.drive.specs.Calls.{Call}
@@ -94,10 +94,10 @@ trail-append n [] b i t = rw add-zero refl
 trail-append n (d ∷ a) b i t = rw (add-suc i (length a), ← suc-add i (length a)) (trail-append n a b (suc i) (followed n i d t))
 
 -- the first of three
-earlier-pick : (f : Found) (b : Bool) (i : ℕ) (r : Found) → earlier (earlier f (pick b (At i) Nowhere)) r ≡ earlier f (pick b (At i) r)
-earlier-pick (At j) b i r = refl
-earlier-pick Nowhere true i r = refl
-earlier-pick Nowhere false i r = refl
+earlier-if : (f : Found) (b : Bool) (i : ℕ) (r : Found) → earlier (earlier f (if b then At i else Nowhere)) r ≡ earlier f (if b then At i else r)
+earlier-if (At j) b i r = refl
+earlier-if Nowhere true i r = refl
+earlier-if Nowhere false i r = refl
 
 -- the first of one
 earlier-nowhere : (f : Found) → earlier f Nowhere ≡ f
@@ -110,17 +110,17 @@ unfolding trailOver silent firstTouched followed
 trail-silent n [] i t h = ap (λ f. record { left = t .left; first = f }) (sym (earlier-nowhere (t .first)))
 trail-silent n (d ∷ l) i t h =
     let other : accepts n (d .effect) ≡ false = not-true _ (and-left _ (silent n l) h) in
-    let next : Trail = record { left = t .left; first = earlier (t .first) (pick (hits (t .left) (d .actions)) (At i) Nowhere) } in
-    ap (trailOver n (suc i) l) (pick-false (accepts n (d .effect)) _ _ other)
+    let next : Trail = record { left = t .left; first = earlier (t .first) (if hits (t .left) (d .actions) then At i else Nowhere) } in
+    ap (trailOver n (suc i) l) (if-false (accepts n (d .effect)) _ _ other)
     ∙ trail-silent n l (suc i) next (and-right (not (accepts n (d .effect))) _ h)
-    ∙ ap (λ f. record { left = t .left; first = f }) (earlier-pick (t .first) (hits (t .left) (d .actions)) i (firstTouched (t .left) (suc i) l))
+    ∙ ap (λ f. record { left = t .left; first = f }) (earlier-if (t .first) (hits (t .left) (d .actions)) i (firstTouched (t .left) (suc i) l))
 
 -- the nexus's latest page, and the calls after it
 trail-page : (n : ℕ) (page : Did) (later : List Did) (i : ℕ) (t : Trail) → accepts n (page .effect) ≡ true → silent n later ≡ true
     → trailOver n i (page ∷ later) t ≡ record { left = page .uses n; first = firstTouched (page .uses n) (suc i) later }
 unfolding trailOver followed
 trail-page n page later i t a h =
-    ap (trailOver n (suc i) later) (pick-true (accepts n (page .effect)) _ _ a)
+    ap (trailOver n (suc i) later) (if-true (accepts n (page .effect)) _ _ a)
     ∙ trail-silent n later (suc i) (record { left = page .uses n; first = Nowhere }) h
 
 -- the reading of the whole is the place that the latest page left, and the first later call that acted on it
@@ -153,10 +153,10 @@ first-is place i [] j e = absurd (let z : _≡_ {A = ℕ} 0 1 = cc in omega arit
 first-is place i (d ∷ l) j e =
     cases (hits place (d .actions))
     (λ t.
-    let here : i ≡ j = at-once i j (sym (pick-true _ _ _ t) ∙ e) in
+    let here : i ≡ j = at-once i j (sym (if-true _ _ _ t) ∙ e) in
     (0, omega (arith, here), record { before = []; call = d; later = l; parts = refl; counted = refl; untouched = refl; touches = t }))
     (λ t.
-    let r = first-is place (suc i) l j (sym (pick-false _ _ _ t) ∙ e) in
+    let r = first-is place (suc i) l j (sym (if-false _ _ _ t) ∙ e) in
     let f : First place l (r .0) = r .2 in (
       suc (r .0),
       omega (arith, r .1),

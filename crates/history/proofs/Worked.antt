@@ -17,10 +17,10 @@ use Rattle.device.specs.declared.Found.{Found}
 use Rattle.device.specs.declared.Found.the-variants.{At, Nowhere}
 use Rattle.marks.specs.Marks.{changes, flagged}
 use Rattle.marks.specs.Reset.{cleared}
-use Rattle.places.specs.Actions.{act, acts, releases, ownPlace, room, pageActions, settled, supplemented, taken}
+use Rattle.places.specs.Actions.{act, acts, releases, ownPlace, room, pageActions, senderAfter, supplemented, taken}
 use Rattle.places.specs.declared.Event.the-variants.{Demount}
 use Rattle.drive.specs.Calls.{Call, powerUp, securityOut, write, happens}
-use Rattle.drive.specs.Answers.{checks, answer}
+use Rattle.drive.specs.Checks.{checks, answer}
 use Rattle.drive.specs.Effects.{effectBy, effect}
 use Rattle.drive.specs.After.{actionsOf, changedBy, carriedOut}
 use Rattle.drive.specs.Runs.{runFrom, run}
@@ -71,7 +71,7 @@ table =
 
 -- all of them hold
 pub worked : T (every table)
-unfolding every table holds bare full reads readFrom trail hits followed trailOver answer checks effectBy actionsOf changedBy carriedOut changes flagged cleared act acts releases ownPlace room pageActions settled supplemented taken setGood nexusGood ownerIsLocal wellFormed ownedPlace selected powerOn publicPage supplementalPage setPage checked openRules modeRules plainRules keyRules setRules matchRules endRules supplementalRules listOf descriptorRules listed
+unfolding every table holds bare full reads readFrom trail hits followed trailOver answer checks effectBy actionsOf changedBy carriedOut changes flagged cleared act acts releases ownPlace room pageActions senderAfter supplemented taken setGood nexusGood ownerIsLocal wellFormed ownedPlace selected powerOn publicPage supplementalPage setPage checked openRules modeRules plainRules keyRules setRules matchRules endRules supplementalRules listOf descriptorRules listed
 worked = tt
 
 -- ---- demand 3 at work, both ways
@@ -116,7 +116,7 @@ abbrev afterP9 : List Call
 afterP9 = sends 3 0x20 0x08 ∷ write 3 true ∷ []
 
 cases : Case 3 (locks 3) afterP7 true × Case 5 (sends 5 0x01 0x44) afterP8 true × Case 3 (locks 3) afterP9 false
-unfolding runFrom drewFrom silent touched bare full reads readFrom hits answer checks effectBy actionsOf changedBy carriedOut changes flagged cleared act acts releases ownPlace room pageActions settled supplemented taken setGood nexusGood ownerIsLocal wellFormed ownedPlace selected powerOn publicPage supplementalPage setPage checked openRules modeRules plainRules keyRules setRules matchRules endRules supplementalRules listOf descriptorRules listed
+unfolding runFrom drewFrom silent touched bare full reads readFrom hits answer checks effectBy actionsOf changedBy carriedOut changes flagged cleared act acts releases ownPlace room pageActions senderAfter supplemented taken setGood nexusGood ownerIsLocal wellFormed ownedPlace selected powerOn publicPage supplementalPage setPage checked openRules modeRules plainRules keyRules setRules matchRules endRules supplementalRules listOf descriptorRules listed
 cases = (
   record { known = lit< tt; fits = lit< tt; heard = refl; locked = refl; accepted = refl; silence = refl; found = refl },
   record { known = lit< tt; fits = lit< tt; heard = refl; locked = refl; accepted = refl; silence = refl; found = refl },

@@ -5,14 +5,15 @@ use mathlib.Core.List.{List, [], _∷_, _++_, map}
 use mathlib.Core.Path.{_≡_}
 use lib.Dec.{eqb}
 use lib.ListN.{length}
-use Rattle.arrays.specs.Base.{pick}
+use Rattle.arrays.specs.Base.{if_then_else_}
 use Rattle.answer.specs.Answers.{numberOf, isDone}
 use Rattle.answer.specs.declared.Answer.the-variants.{Done}
-use Rattle.page.specs.declared.Fields.{Fields}
+use Rattle.parameters.specs.declared.Fields.{Fields}
 use Rattle.page.specs.declared.Page.{Page}
-use Rattle.device.specs.Record.{State, powerOn, setAt, allScope}
+use Rattle.parameters.specs.Codes.{allScope}
+use Rattle.device.specs.Record.{State, powerOn, setAt}
 use Rattle.device.specs.Selecting.{selected}
-use Rattle.device.specs.declared.Supplemental.{Supplemental}
+use Rattle.parameters.specs.declared.Supplemental.{Supplemental}
 use Rattle.device.specs.declared.Set.{Set}
 use Rattle.device.specs.declared.Marks.{Marks}
 use Rattle.device.specs.declared.Nexus.{Nexus}
@@ -20,7 +21,7 @@ use Rattle.device.specs.declared.Found.{Found}
 use Rattle.device.specs.declared.Found.the-variants.{At, Nowhere}
 use Rattle.places.specs.Actions.{Action, releaseOwn, establish}
 use Rattle.drive.specs.Calls.{Call, write}
-use Rattle.drive.specs.Answers.{firstOf, check1, heardOf, answer}
+use Rattle.drive.specs.Checks.{firstOf, check1, heardOf, answer}
 use Rattle.drive.specs.Effects.{Effect, nothing, marks, takes, clears, releasing, restarts, effect}
 use Rattle.drive.specs.After.{Telling, carriedOut, actionsOf, actions, after}
 use Rattle.drive.specs.Runs.{runFrom}
@@ -165,13 +166,13 @@ leftBy {s = s} x = after (runFrom s (x .before)) (x .page)
 
 -- ---- the numbers
 
-abbrev pub numberAt : State → ℕ → ℕ
-numberAt s place = setAt s place .number
+abbrev pub placeNumber : State → ℕ → ℕ
+placeNumber s place = setAt s place .number
 
 -- there is a place, no number is above the counter, and that many more draws stay below the wrap
 pub record Low (s : State) (k : ℕ) : Type 0 where
   pub some : 0 < length (s .sets)
-  pub low : (place : ℕ) → numberAt s place ≤ s .counter
+  pub low : (place : ℕ) → placeNumber s place ≤ s .counter
   pub fits : s .counter + k < 2 ^ 32
 
 -- how many are drawn since the latest power-on, where k were before the effect that has these actions: each action draws one
@@ -197,7 +198,7 @@ drew nexuses places calls = drewFrom 0 (powerOn nexuses places) calls
 -- the position, counted on from i, of the first call that acted on the place
 unfoldable pub firstTouched : (place i : ℕ) → List Did → Found
 firstTouched place i [] = Nowhere
-firstTouched place i (d ∷ later) = pick (hits place (d .actions)) (At i) (firstTouched place (suc i) later)
+firstTouched place i (d ∷ later) = if hits place (d .actions) then At i else firstTouched place (suc i) later
 
 -- what it is to be that call: it acted on the place, and none before it did
 pub record First (place : ℕ) (l : List Did) (position : ℕ) : Type 0 where
@@ -228,8 +229,8 @@ isFound Nowhere = false
 -- a call, at position i: such a page sets the reading anew, any other call is noted if it is the first to act on the place
 unfoldable pub followed : (n i : ℕ) → Did → Trail → Trail
 followed n i d t =
-    pick (accepts n (d .effect)) (record { left = d .uses n; first = Nowhere })
-    (record { left = t .left; first = earlier (t .first) (pick (hits (t .left) (d .actions)) (At i) Nowhere) })
+    if accepts n (d .effect) then record { left = d .uses n; first = Nowhere }
+    else record { left = t .left; first = earlier (t .first) (if hits (t .left) (d .actions) then At i else Nowhere) }
 
 -- the same over a history
 unfoldable pub trailOver : (n i : ℕ) → List Did → Trail → Trail

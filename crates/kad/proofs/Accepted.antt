@@ -15,7 +15,7 @@ use Rattle.wire.specs.Numbers.{byteAt}
 use Rattle.wire.specs.Rules.{breach}
 use Rattle.wire.proofs.Rules.{none}
 use Rattle.kad.specs.Kad.{uMost, aMost, withData}
-use Rattle.kad.specs.Reading.{headSize, typeOf, lengthOf, dataOf, nextOf, most, rising, descriptorRules, oneStep, listed}
+use Rattle.kad.specs.Reading.{descriptorHead, typeOf, lengthOf, dataOf, nextOf, most, rising, descriptorRules, oneStep, listed}
 use Rattle.kad.specs.Writing.{descriptor}
 use Rattle.kad.specs.declared.Kads.{Kads}
 use Rattle.kad.specs.declared.Listed.{Listed}
@@ -40,7 +40,7 @@ elements-eq (suc n) i l h = drop-cons l i 0 (omega arith) ∙ ap (λ (t : List �
 
 -- data are at most as many bytes as the length states
 pub data-few : (s : List ℕ) → length (dataOf s) ≤ lengthOf s
-data-few s = omega (arith, length-take (lengthOf s) (drop headSize s))
+data-few s = omega (arith, length-take (lengthOf s) (drop descriptorHead s))
 
 -- what the rules of a list's first descriptor say
 pub record Formed (s : List ℕ) (seen : Seen) : Type 0 where
@@ -52,7 +52,7 @@ pub record Formed (s : List ℕ) (seen : Seen) : Type 0 where
   pub few : lengthOf s ≤ most (typeOf s)
 
 -- where none of them breaks
-pub formed : (s : List ℕ) (seen : Seen) → headSize ≤ breach (descriptorRules s seen) headSize → Formed s seen
+pub formed : (s : List ℕ) (seen : Seen) → descriptorHead ≤ breach (descriptorRules s seen) descriptorHead → Formed s seen
 unfolding descriptorRules
 formed s seen h =
     let all = rules-hold s seen h in
@@ -66,23 +66,23 @@ formed s seen h =
     }
 
 -- and only there
-pub passes : (s : List ℕ) (seen : Seen) → Formed s seen → breach (descriptorRules s seen) headSize ≡ headSize
+pub passes : (s : List ℕ) (seen : Seen) → Formed s seen → breach (descriptorRules s seen) descriptorHead ≡ descriptorHead
 unfolding descriptorRules
 passes s seen f =
-    none (descriptorRules s seen) headSize
-    (le-leb _ _ (f .low), (f .rises, (le-leb headSize (length s) (omega arith), (le-leb _ _ (f .fits), (eq-eqb _ _ (f .blank), (ap not (ne-eqb _ _ (f .some)), (le-leb _ _ (f .few), tt)))))))
+    none (descriptorRules s seen) descriptorHead
+    (le-leb _ _ (f .low), (f .rises, (le-leb descriptorHead (length s) (omega arith), (le-leb _ _ (f .fits), (eq-eqb _ _ (f .blank), (ap not (ne-eqb _ _ (f .some)), (le-leb _ _ (f .few), tt)))))))
 
 -- a list that starts with a descriptor is that descriptor and the rest
 pub front : (s : List ℕ) (seen : Seen) → Formed s seen → s ≡ descriptor (typeOf s) (dataOf s) ++ drop (nextOf s) s
 front s seen f =
     let few : lengthOf s ≤ uMost = omega (arith, most-le (typeOf s), f .few) in
-    let size : length (dataOf s) ≡ lengthOf s = length-take-le (lengthOf s) (drop headSize s) (omega (arith, length-drop headSize s, f .fits)) in
+    let size : length (dataOf s) ≡ lengthOf s = length-take-le (lengthOf s) (drop descriptorHead s) (omega (arith, length-drop descriptorHead s, f .fits)) in
     let high : byteAt s 2 ≡ 0 = omega arith in
     let low : byteAt s 3 ≡ lengthOf s = omega arith in
     let blank = f .blank in
-    let start : s ≡ typeOf s ∷ 0 ∷ 0 ∷ lengthOf s ∷ drop headSize s = elements-eq 4 0 s (omega arith) ∙ cc in
+    let start : s ≡ typeOf s ∷ 0 ∷ 0 ∷ lengthOf s ∷ drop descriptorHead s = elements-eq 4 0 s (omega arith) ∙ cc in
     start
-    ∙ rw (some (typeOf s) (dataOf s) (λ e. f .some (sym size ∙ e)) (omega arith), size, ← drop-drop (lengthOf s) headSize s, take-append-drop (lengthOf s) (drop headSize s)) refl
+    ∙ rw (some (typeOf s) (dataOf s) (λ e. f .some (sym size ∙ e)) (omega arith), size, ← drop-drop (lengthOf s) descriptorHead s, take-append-drop (lengthOf s) (drop descriptorHead s)) refl
 
 -- ---- a list without a fault
 
@@ -135,11 +135,11 @@ join seen (suc (suc kind)) d rest l r h p = absurd (omega arith)
 step-parts : (f : List ℕ → Seen → Kads → Listed) (s : List ℕ) (seen : Seen) (k : Kads) → 0 < length s
     → ((t : List ℕ) (seen : Seen) (k : Kads) → length t < length s → f t seen k .good ≡ length t → Parts seen t) → oneStep f s seen k .good ≡ length s → Parts seen s
 step-parts f s seen k l p e =
-    let fault = breach (descriptorRules s seen) headSize in
-    cases (ltb fault headSize)
+    let fault = breach (descriptorRules s seen) descriptorHead in
+    cases (ltb fault descriptorHead)
     (λ t. let ends : fault ≡ length s = rw t at e in absurd (omega (arith, fault-lt s seen l (ltb-true _ _ t))))
     (λ t.
-    let d = formed s seen (ltb-false fault headSize t) in
+    let d = formed s seen (ltb-false fault descriptorHead t) in
     let rest = drop (nextOf s) s in
     let more = withData k (typeOf s) (dataOf s) in
     let size = length-drop (nextOf s) s in

@@ -8,12 +8,12 @@ use native.Mathlib.Omega.{arith}
 use borrow.Author.Tests.{leb-true, ltb-false, le-leb}
 use lib.Dec.{ltb, leb, eqb}
 use lib.ListN.{length, drop}
-use Rattle.arrays.proofs.Base.{both, and-left, and-right, pick-elim}
+use Rattle.arrays.proofs.Base.{both, and-left, and-right, if-elim}
 use Rattle.wire.specs.Buffers.{padded, allZero}
 use Rattle.wire.specs.Rules.{breach}
 use Rattle.wire.proofs.Stores.{length-padded, zero-past}
 use Rattle.kad.specs.Kad.{uMost, aMost, noKads, uKad, aKad, withData, lengthsGood, tailsGood, Sized}
-use Rattle.kad.specs.Reading.{headSize, typeOf, dataOf, nextOf, most, descriptorRules, listed}
+use Rattle.kad.specs.Reading.{descriptorHead, typeOf, dataOf, nextOf, most, descriptorRules, listed}
 use Rattle.kad.specs.declared.Kads.{Kads}
 use Rattle.kad.specs.declared.Listed.{Listed}
 use Rattle.kad.specs.declared.Seen.{Seen}
@@ -68,7 +68,7 @@ good-none = record { u = filled uMost [] (omega arith); a = filled aMost [] (ome
 -- data that have room keep good what is
 good-with : (k : Kads) (kind : ℕ) (d : List ℕ) → length d ≤ most kind → Good k → Good (withData k kind d)
 good-with k kind d h g =
-    pick-elim Good (eqb kind 0) {x = record { ukad = uKad d; akad = k .akad }} {y = record { ukad = k .ukad; akad = aKad d }}
+    if-elim Good (eqb kind 0) {x = record { ukad = uKad d; akad = k .akad }} {y = record { ukad = k .ukad; akad = aKad d }}
     (λ e. record { u = filled uMost d (rw e at h); a = g .a }) (λ e. record { u = g .u; a = filled aMost d (rw e at h) })
 
 -- whatever the list, what is read of it is good where the data so far are
@@ -78,11 +78,11 @@ good-listed zero s seen k g = g
 good-listed (suc n) [] seen k g = g
 good-listed (suc n) (b ∷ s) seen k g =
     let l = b ∷ s in
-    let fault = breach (descriptorRules l seen) headSize in
+    let fault = breach (descriptorRules l seen) descriptorHead in
     let rest = listed n (drop (nextOf l) l) (Last (typeOf l)) (withData k (typeOf l) (dataOf l)) in
-    pick-elim (λ (r : Listed). Good (r .kads)) (ltb fault headSize) {x = record { good = fault; kads = k }} {y = record { good = nextOf l + rest .good; kads = rest .kads }}
+    if-elim (λ (r : Listed). Good (r .kads)) (ltb fault descriptorHead) {x = record { good = fault; kads = k }} {y = record { good = nextOf l + rest .good; kads = rest .kads }}
     (λ t. g)
     (λ t.
-    let fits = room l seen (ltb-false fault headSize t) .1 in
+    let fits = room l seen (ltb-false fault descriptorHead t) .1 in
     let few = data-few l in
     good-listed n (drop (nextOf l) l) (Last b) (withData k b (dataOf l)) (good-with k b (dataOf l) (omega arith) g))

@@ -5,4 +5,3 @@ pub mod RoundTrip
 pub mod Accepted
 pub mod Lowest
 pub mod Worked
-pub mod Settled

@@ -9,11 +9,11 @@ use native.Mathlib.Omega.{arith}
 use lib.Dec.{ltb, eqb}
 use lib.ListN.{length, drop, length-drop}
 use borrow.Author.Tests.{leb-true, ltb-true, ltb-false}
-use Rattle.arrays.proofs.Base.{pick-elim}
+use Rattle.arrays.proofs.Base.{if-elim}
 use Rattle.wire.specs.Rules.{breach}
 use Rattle.wire.proofs.Rules.{Under, AllHold, kept, guarded}
 use Rattle.kad.specs.Kad.{uMost, withData}
-use Rattle.kad.specs.Reading.{headSize, typeOf, lengthOf, dataOf, nextOf, most, descriptorRules, oneStep, listed}
+use Rattle.kad.specs.Reading.{descriptorHead, typeOf, lengthOf, dataOf, nextOf, most, descriptorRules, oneStep, listed}
 use Rattle.kad.specs.declared.Kads.{Kads}
 use Rattle.kad.specs.declared.Listed.{Listed}
 use Rattle.kad.specs.declared.Seen.{Seen}
@@ -23,30 +23,30 @@ use Rattle.kad.specs.declared.Seen.the-variants.{Last}
 
 -- no type has more than 32 bytes
 pub most-le : (kind : ℕ) → most kind ≤ uMost
-most-le kind = pick-elim (λ (n : ℕ). n ≤ uMost) (eqb kind 0) (λ e. omega arith) (λ e. omega arith)
+most-le kind = if-elim (λ (n : ℕ). n ≤ uMost) (eqb kind 0) (λ e. omega arith) (λ e. omega arith)
 
 -- a descriptor's rules point below its data
-pub rules-under : (s : List ℕ) (seen : Seen) → Under headSize (descriptorRules s seen)
+pub rules-under : (s : List ℕ) (seen : Seen) → Under descriptorHead (descriptorRules s seen)
 unfolding descriptorRules
 rules-under s seen = omega arith
 
 -- a descriptor without a fault keeps every rule
-pub rules-hold : (s : List ℕ) (seen : Seen) → headSize ≤ breach (descriptorRules s seen) headSize → AllHold (descriptorRules s seen)
-rules-hold s seen l = kept (descriptorRules s seen) headSize headSize (rules-under s seen) l
+pub rules-hold : (s : List ℕ) (seen : Seen) → descriptorHead ≤ breach (descriptorRules s seen) descriptorHead → AllHold (descriptorRules s seen)
+rules-hold s seen l = kept (descriptorRules s seen) descriptorHead descriptorHead (rules-under s seen) l
 
 -- so it lies within the list, and its data has room
-pub room : (s : List ℕ) (seen : Seen) → headSize ≤ breach (descriptorRules s seen) headSize → (nextOf s ≤ length s) × (lengthOf s ≤ most (typeOf s))
+pub room : (s : List ℕ) (seen : Seen) → descriptorHead ≤ breach (descriptorRules s seen) descriptorHead → (nextOf s ≤ length s) × (lengthOf s ≤ most (typeOf s))
 unfolding descriptorRules
 room s seen l =
     let all = rules-hold s seen l in
     (leb-true _ _ (all .1 .1 .1 .0), leb-true _ _ (all .1 .1 .1 .1 .1 .1 .0))
 
 -- a fault lies within the list
-pub fault-lt : (s : List ℕ) (seen : Seen) → 0 < length s → breach (descriptorRules s seen) headSize < headSize → breach (descriptorRules s seen) headSize < length s
+pub fault-lt : (s : List ℕ) (seen : Seen) → 0 < length s → breach (descriptorRules s seen) descriptorHead < descriptorHead → breach (descriptorRules s seen) descriptorHead < length s
 unfolding descriptorRules
 fault-lt s seen l b =
     ⊎-elim (λ p. p) (λ p. absurd (omega arith))
-    (guarded (descriptorRules s seen) headSize (length s) (l, λ _. (l, λ _. (l, λ e. let four = leb-true 4 (length s) e in (l, λ _. (omega arith, λ _. (omega arith, λ _. (omega arith, λ _. tt))))))))
+    (guarded (descriptorRules s seen) descriptorHead (length s) (l, λ _. (l, λ _. (l, λ e. let four = leb-true 4 (length s) e in (l, λ _. (omega arith, λ _. (omega arith, λ _. (omega arith, λ _. tt))))))))
 
 -- ---- the whole list
 
@@ -91,11 +91,11 @@ reading-cons (b ∷ s) seen k l =
 -- the first fault lies within the list, or at its end, where it does so in the rest
 step-le : (f : Reader) (s : List ℕ) (seen : Seen) (k : Kads) → 0 < length s → ((t : List ℕ) (seen : Seen) (k : Kads) → length t < length s → f t seen k .good ≤ length t) → oneStep f s seen k .good ≤ length s
 step-le f s seen k l e =
-    let fault = breach (descriptorRules s seen) headSize in
+    let fault = breach (descriptorRules s seen) descriptorHead in
     let t = drop (nextOf s) s in
     let rest = f t (Last (typeOf s)) (withData k (typeOf s) (dataOf s)) in
     let len = length-drop (nextOf s) s in
-    pick-elim (λ (r : Listed). r .good ≤ length s) (ltb fault headSize) {x = record { good = fault; kads = k }} {y = record { good = nextOf s + rest .good; kads = rest .kads }}
+    if-elim (λ (r : Listed). r .good ≤ length s) (ltb fault descriptorHead) {x = record { good = fault; kads = k }} {y = record { good = nextOf s + rest .good; kads = rest .kads }}
     (λ b. let lt = fault-lt s seen l (ltb-true _ _ b) in omega arith)
     (λ b. let le = e t (Last (typeOf s)) (withData k (typeOf s) (dataOf s)) (simp length-drop (omega arith)) in omega (arith, room s seen (ltb-false _ _ b) .0))
 

@@ -15,7 +15,7 @@ use Rattle.wire.specs.Buffers.{padded}
 use Rattle.wire.specs.Rules.{breach}
 use Rattle.wire.proofs.Stores.{take-padded, padded-back}
 use Rattle.kad.specs.Kad.{uMost, aMost, noKads, kadsOf, withData, lengthsGood, tailsGood, Sized}
-use Rattle.kad.specs.Reading.{headSize, lengthOf, dataOf, nextOf, most, rising, descriptorRules, readKads}
+use Rattle.kad.specs.Reading.{descriptorHead, lengthOf, dataOf, nextOf, most, rising, descriptorRules, readKads}
 use Rattle.kad.specs.Writing.{descriptor, uData, aData, descriptors, listMost}
 use Rattle.kad.specs.declared.Kads.{Kads}
 use Rattle.kad.specs.declared.Listed.{Listed}
@@ -38,13 +38,13 @@ read-first : (seen : Seen) (kind : ℕ) (d rest : List ℕ) (k k′ : Kads) → 
 read-first seen kind d rest k k′ l r z m e =
     let s : List ℕ = kind ∷ 0 ∷ 0 ∷ length d ∷ (d ++ rest) in
     let is : descriptor kind d ++ rest ≡ s = ap (λ (t : List ℕ). t ++ rest) (some kind d z (omega (arith, most-le kind))) in
-    let count : length s ≡ headSize + length d + length rest = omega (arith, length-append d rest) in
+    let count : length s ≡ descriptorHead + length d + length rest = omega (arith, length-append d rest) in
     let stated : lengthOf s ≡ length d = omega arith in
     let content : dataOf s ≡ d = rw stated (take-at d rest (length d) refl) in
-    let after : drop (nextOf s) s ≡ rest = rw (stated, ← drop-drop (length d) headSize s) (drop-at d rest (length d) refl) in
+    let after : drop (nextOf s) s ≡ rest = rw (stated, ← drop-drop (length d) descriptorHead s) (drop-at d rest (length d) refl) in
     let formed : Formed s seen = record { low = l; rises = r; fits = omega arith; blank = refl; some = λ y. z (sym stated ∙ y); few = omega arith } in
     let sum : nextOf s + length rest ≡ length s = omega arith in
-    rw is (reading-cons s seen k (omega arith) ∙ rw (le-ltb (breach (descriptorRules s seen) headSize) headSize (omega (arith, passes s seen formed)), after, content, e, sum) refl)
+    rw is (reading-cons s seen k (omega arith) ∙ rw (le-ltb (breach (descriptorRules s seen) descriptorHead) descriptorHead (omega (arith, passes s seen formed)), after, content, e, sum) refl)
 
 -- A-KAD alone, or nothing, after U-KAD
 read-second : (seen : Seen) (u a : List ℕ) → rising seen 1 ≡ true → length a ≤ aMost → reading (descriptor 1 a) seen (kadsOf u []) ≡ whole (descriptor 1 a) (kadsOf u a)

@@ -14,7 +14,7 @@ use Rattle.wire.specs.Buffers.{padded}
 use Rattle.wire.proofs.Numbers.{two-small}
 use Rattle.wire.proofs.Stores.{sets-append, sets-shown}
 use Rattle.kad.specs.Kad.{uMost, aMost, Sized}
-use Rattle.kad.specs.Reading.{headSize}
+use Rattle.kad.specs.Reading.{descriptorHead}
 use Rattle.kad.specs.Writing.{descriptor, uData, aData, descriptors, listMost, written}
 use Rattle.kad.specs.declared.Kads.{Kads}
 
@@ -29,7 +29,7 @@ some kind [] h l = absurd (h refl)
 some kind (x ∷ d) h l = ap (λ (t : List ℕ). kind ∷ 0 ∷ (t ++ x ∷ d)) (two-small (length (x ∷ d)) l)
 
 -- it has at most four bytes more than its data
-pub size : (kind : ℕ) (d : List ℕ) → length (descriptor kind d) ≤ headSize + length d
+pub size : (kind : ℕ) (d : List ℕ) → length (descriptor kind d) ≤ descriptorHead + length d
 size kind [] = omega arith
 size kind (x ∷ d) = omega arith
 

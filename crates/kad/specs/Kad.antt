@@ -5,7 +5,7 @@ use mathlib.Core.Bool.{Bool, _&&_}
 use mathlib.Core.List.{List}
 use lib.Dec.{leb, eqb}
 use lib.ListN.{length, drop, replicate}
-use Rattle.arrays.specs.Base.{pick}
+use Rattle.arrays.specs.Base.{if_then_else_}
 use Rattle.wire.specs.Buffers.{padded, allZero}
 use Rattle.kad.specs.declared.UKad.{UKad}
 use Rattle.kad.specs.declared.AKad.{AKad}
@@ -34,7 +34,7 @@ noKads = record { ukad = record { length = 0; bytes = replicate uMost 0 }; akad 
 -- with the data of one type put in: type 0 is U-KAD, type 1 A-KAD
 abbrev pub withData : Kads → ℕ → List ℕ → Kads
 withData k kind d =
-    pick (eqb kind 0) (record { ukad = uKad d; akad = k .akad }) (record { ukad = k .ukad; akad = aKad d })
+    if eqb kind 0 then record { ukad = uKad d; akad = k .akad } else record { ukad = k .ukad; akad = aKad d }
 
 -- the lengths are in range
 abbrev pub lengthsGood : Kads → Bool

@@ -6,7 +6,7 @@ use mathlib.Core.Bool.{Bool, true, not}
 use mathlib.Core.List.{List, [], _∷_}
 use lib.ListN.{length, take, drop}
 use lib.Dec.{ltb, leb, eqb}
-use Rattle.arrays.specs.Base.{pick}
+use Rattle.arrays.specs.Base.{if_then_else_}
 use Rattle.wire.specs.Numbers.{byteAt, wordAt}
 use Rattle.wire.specs.Rules.{Rule, rule, breach}
 use Rattle.kad.specs.Kad.{uMost, aMost, noKads, withData}
@@ -16,8 +16,8 @@ use Rattle.kad.specs.declared.Seen.{Seen}
 use Rattle.kad.specs.declared.Seen.the-variants.{Nothing, Last}
 
 -- the bytes of a descriptor before its data
-abbrev pub headSize : ℕ
-headSize = 4
+abbrev pub descriptorHead : ℕ
+descriptorHead = 4
 
 -- the first descriptor's type, the length that it states, and its data
 abbrev pub typeOf : List ℕ → ℕ
@@ -27,15 +27,15 @@ abbrev pub lengthOf : List ℕ → ℕ
 lengthOf s = wordAt s 2
 
 abbrev pub dataOf : List ℕ → List ℕ
-dataOf s = take (lengthOf s) (drop headSize s)
+dataOf s = take (lengthOf s) (drop descriptorHead s)
 
 -- where the rest of the list starts
 abbrev pub nextOf : List ℕ → ℕ
-nextOf s = headSize + lengthOf s
+nextOf s = descriptorHead + lengthOf s
 
 -- the most bytes that a type has
 abbrev pub most : ℕ → ℕ
-most kind = pick (eqb kind 0) uMost aMost
+most kind = if eqb kind 0 then uMost else aMost
 
 -- types rise: the type is above the last one seen
 abbrev pub rising : Seen → ℕ → Bool
@@ -48,7 +48,7 @@ unfoldable pub descriptorRules : List ℕ → Seen → List Rule
 descriptorRules s seen =
     rule 0 (leb (typeOf s) 1)
     ∷ rule 0 (rising seen (typeOf s))
-    ∷ rule 0 (leb headSize (length s))
+    ∷ rule 0 (leb descriptorHead (length s))
     ∷ rule 0 (leb (nextOf s) (length s))
     ∷ rule 1 (eqb (byteAt s 1) 0)
     ∷ rule 2 (not (eqb (lengthOf s) 0))
@@ -58,9 +58,9 @@ descriptorRules s seen =
 -- a list that isn't empty: its first fault, or what f makes of the rest after its first descriptor
 abbrev pub oneStep : (List ℕ → Seen → Kads → Listed) → List ℕ → Seen → Kads → Listed
 oneStep f s seen k =
-    let fault = breach (descriptorRules s seen) headSize in
+    let fault = breach (descriptorRules s seen) descriptorHead in
     let rest = f (drop (nextOf s) s) (Last (typeOf s)) (withData k (typeOf s) (dataOf s)) in
-    pick (ltb fault headSize) (record { good = fault; kads = k }) (record { good = nextOf s + rest .good; kads = rest .kads })
+    if ltb fault descriptorHead then record { good = fault; kads = k } else record { good = nextOf s + rest .good; kads = rest .kads }
 
 -- what a list of at most n bytes gives: how many bytes stand before its first fault, all of them where there is none, and the data
 unfoldable pub listed : ℕ → List ℕ → Seen → Kads → Listed

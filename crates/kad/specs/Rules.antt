@@ -1,11 +1,11 @@
 -- The rules of a whole list of descriptors, each pointing to its byte in the page that the list stands in.
 use Prim.Native.Nat.{ℕ, zero, suc, _+_}
 use mathlib.Core.List.{List, [], _∷_, _++_}
-use lib.ListN.{length, drop}
+use lib.ListN.{drop}
 use Rattle.wire.specs.Rules.{Rule, rule}
 use Rattle.kad.specs.Reading.{typeOf, nextOf, descriptorRules}
 use Rattle.kad.specs.declared.Seen.{Seen}
-use Rattle.kad.specs.declared.Seen.the-variants.{Nothing, Last}
+use Rattle.kad.specs.declared.Seen.the-variants.{Last}
 
 -- the same rules, each pointing i bytes further
 abbrev pub shifted : ℕ → List Rule → List Rule
@@ -19,7 +19,3 @@ listRules (suc n) i [] seen = []
 listRules (suc n) i (b ∷ s) seen =
     let next = nextOf (b ∷ s) in
     shifted i (descriptorRules (b ∷ s) seen) ++ listRules n (i + next) (drop next (b ∷ s)) (Last (typeOf (b ∷ s)))
-
--- the rules of a list by itself
-abbrev pub rulesOf : List ℕ → List Rule
-rulesOf l = listRules (length l) 0 l Nothing

@@ -5,7 +5,7 @@ use lib.ListN.{length, take}
 use Rattle.wire.specs.Numbers.{two}
 use Rattle.wire.specs.Buffers.{padded}
 use Rattle.kad.specs.Kad.{uMost, aMost}
-use Rattle.kad.specs.Reading.{headSize}
+use Rattle.kad.specs.Reading.{descriptorHead}
 use Rattle.kad.specs.declared.Kads.{Kads}
 use Rattle.kad.specs.declared.Written.{Written}
 
@@ -26,7 +26,7 @@ descriptors k = descriptor 0 (uData k) ++ descriptor 1 (aData k)
 
 -- the most bytes of both
 abbrev pub listMost : ℕ
-listMost = headSize + uMost + (headSize + aMost)
+listMost = descriptorHead + uMost + (descriptorHead + aMost)
 
 -- their count, and the bytes with zeros after them
 abbrev pub written : Kads → Written

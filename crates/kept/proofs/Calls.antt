@@ -16,12 +16,14 @@ use Rattle.answer.specs.declared.Change.the-variants.{Registered}
 use Rattle.kad.proofs.Good.{good-lengths, good-tails}
 use Rattle.page.specs.declared.Page.{Page}
 use Rattle.page.proofs.Accepted.{IsSet, accepted-page}
-use Rattle.device.specs.Record.{State, nexusAt, localScope}
+use Rattle.parameters.specs.Codes.{localScope}
+use Rattle.device.specs.Record.{State, nexusAt}
 use Rattle.device.specs.Selecting.{selectedSet}
 use Rattle.device.specs.WellFormed.{wellFormed}
 use Rattle.device.specs.Updates.{withNexuses}
 use Rattle.device.specs.declared.Nexus.{Nexus}
-use Rattle.device.proofs.WellFormed.{ranges-good, power-on-well}
+use Rattle.parameters.proofs.Good.{ranges-good}
+use Rattle.device.proofs.WellFormed.{power-on-well}
 use Rattle.marks.specs.Marks.{remarked, changed, changes, told, alerted, flagged}
 use Rattle.marks.specs.Reset.{unmarked, cleared}
 use Rattle.marks.specs.declared.Actor.{Actor}

@@ -6,9 +6,10 @@ use mathlib.Core.Bool.{Bool, true, or-false}
 use native.Mathlib.Omega.{arith}
 use borrow.Author.Tests.{eqb-true, eqb-false, eq-eqb}
 use lib.Dec.{eqb}
-use Rattle.arrays.specs.Base.{pick}
-use Rattle.arrays.proofs.Base.{cases, both, pick-map, pick-same, same-truth}
-use Rattle.device.specs.Record.{State, setAt, nexusAt, publicScope, localScope, allScope}
+use Rattle.arrays.specs.Base.{if_then_else_}
+use Rattle.arrays.proofs.Base.{cases, both, if-map, if-same, same-truth}
+use Rattle.parameters.specs.Codes.{publicScope, localScope, allScope}
+use Rattle.device.specs.Record.{State, setAt, nexusAt}
 use Rattle.device.specs.Selecting.{owns, selected}
 use Rattle.device.specs.WellFormed.{wellFormed}
 use Rattle.device.specs.declared.Nexus.{Nexus}
@@ -38,7 +39,7 @@ module _ (s : State) (w : wellFormed s ≡ true) (place n : ℕ) where
       (λ t. eq-eqb _ _ (z ∙ sym (eqb-true place 0 t)))
 
   abbrev choice : Bool → ℕ
-  choice b = pick b publicScope (nexusAt s n .scope)
+  choice b = if b then publicScope else nexusAt s n .scope
 
   local : nexusAt s n .scope ≡ localScope → choice (eqb (selected s n) place) ≡ choice (loses s place n)
   local e =
@@ -51,12 +52,12 @@ module _ (s : State) (w : wellFormed s ≡ true) (place n : ℕ) where
       ap choice (uses-all e ∙ told)
 
   public : nexusAt s n .scope ≡ 0 → choice (eqb (selected s n) place) ≡ choice (loses s place n)
-  public e = rw e (pick-same (eqb (selected s n) place) publicScope)
+  public e = rw e (if-same (eqb (selected s n) place) publicScope)
 
   -- in a well-formed record an action on a place makes PUBLIC exactly the nexuses that are LOCAL there, or ALL for place 0
-  pub freed-as-worded : freed s place n (nexusAt s n) .scope ≡ pick (loses s place n) publicScope (nexusAt s n .scope)
+  pub freed-as-worded : freed s place n (nexusAt s n) .scope ≡ if loses s place n then publicScope else nexusAt s n .scope
   freed-as-worded =
-      pick-map (λ (x : Nexus). x .scope) (eqb (selected s n) place) (withScope publicScope (nexusAt s n)) (nexusAt s n)
+      if-map (λ (x : Nexus). x .scope) (eqb (selected s n) place) (withScope publicScope (nexusAt s n)) (nexusAt s n)
       ∙ cases (eqb (nexusAt s n .scope) localScope)
       (λ t. local (eqb-true _ _ t))
       (λ f. cases (eqb (nexusAt s n .scope) allScope)

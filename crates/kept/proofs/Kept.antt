@@ -11,30 +11,32 @@ use lib.ListN.{length, getD, set, drop, length-set, List·getD-eq-default}
 use lib.Seq.{sets, set-out, drop-drop}
 use Rattle.arrays.specs.Base.{bit}
 use Rattle.arrays.specs.Arrays.{mapFrom, count, find}
-use Rattle.arrays.proofs.Base.{cases, clash, and-left, and-right, pick-elim, same-truth}
+use Rattle.arrays.proofs.Base.{cases, clash, and-left, and-right, if-elim, same-truth}
 use Rattle.arrays.proofs.Laws.{find-by, length-mapFrom, getD-mapFrom, getD-set-by, drop-sets}
 use Rattle.wire.specs.Buffers.{allZero}
 use Rattle.wire.proofs.Zeros.{all-zero-rest}
 use Rattle.kad.specs.Kad.{tailsGood}
-use Rattle.page.specs.Fields.{keySize}
-use Rattle.page.specs.Check.{supplementalMost}
-use Rattle.page.specs.declared.Fields.{Fields}
+use Rattle.parameters.specs.Codes.{localScope, allScope}
+use Rattle.parameters.specs.Fields.{keySize, supplementalMost}
+use Rattle.parameters.specs.Good.{fieldCodes, keysPast}
+use Rattle.parameters.specs.declared.Fields.{Fields}
 use Rattle.page.specs.declared.Page.{Page}
-use Rattle.device.specs.Record.{State, setAt, nexusAt, noSet, newNexus, empty, used, localScope, allScope, established}
+use Rattle.device.specs.Record.{State, setAt, nexusAt, noSet, newNexus, empty, used, established}
 use Rattle.device.specs.Selecting.{owns, ownedPlace, selected, selectedSet}
-use Rattle.device.specs.WellFormed.{fieldCodes, keysPast, setGood, wellFormed}
-use Rattle.device.specs.declared.Supplemental.{Supplemental}
+use Rattle.device.specs.WellFormed.{setGood, wellFormed}
+use Rattle.parameters.specs.declared.Supplemental.{Supplemental}
 use Rattle.device.specs.declared.Set.{Set}
 use Rattle.device.specs.declared.Nexus.{Nexus}
 use Rattle.device.specs.declared.Found.{Found}
 use Rattle.device.specs.declared.Found.the-variants.{At, Nowhere}
 use Rattle.arrays.proofs.Counting.{count-none, count-some, find-counted}
 use Rattle.device.proofs.Selecting.{selected-shared, selected-local, own}
-use Rattle.device.proofs.WellFormed.{ranges, place-local, GoodSet, GoodNexus, set-good, established-good, used-within, nexus-at, owner-at, set-at, placeScope, scopes-kept}
+use Rattle.parameters.proofs.Good.{ranges}
+use Rattle.device.proofs.WellFormed.{place-local, GoodSet, GoodNexus, set-good, established-good, used-within, nexus-at, owner-at, set-at, placeScope, scopes-kept}
 use Rattle.device.specs.Updates.{withScope, withSupplemental, withNexuses, atNexus}
-use Rattle.places.specs.Actions.{Action, release, establish, act, acts, releases, ownPlace, releaseFound, releaseOwn, emptyLocal, unlockedLocal, freeAt, takenAt, room, establishIn, pageActions, settledNexus, settled, appended, supplemented, taken}
+use Rattle.places.specs.Actions.{Action, release, establish, act, acts, releases, ownPlace, releaseFound, releaseOwn, emptyLocal, unlockedLocal, freeAt, evictingAt, room, establishIn, pageActions, nexusAfter, senderAfter, appended, supplemented, taken}
 use Rattle.places.specs.declared.Room.{Room}
-use Rattle.places.specs.declared.Room.the-variants.{Free, Taken, NoRoom}
+use Rattle.places.specs.declared.Room.the-variants.{Free, Evicting, NoRoom}
 use Rattle.places.proofs.Lengths.{act-size, acts-size}
 use Rattle.places.proofs.Releases.{acts-append, releases-elim}
 use Rattle.kept.proofs.Near.{none, only, held, Near, near-of, near-well, owns-used, owned, Proper, act-set-by, act-count, act-near, release-near, set-near}
@@ -100,7 +102,7 @@ pub record Fit (s : State) (n : ℕ) (page : Page) : Type 0 where
   pub place : page .supplemental ≡ false → page .scope ≡ localScope → room s n ≡ NoRoom → ⊥
   pub key : page .supplemental ≡ true → KeyFit s n page
 
--- ---- the sender settled
+-- ---- the sender after its page
 
 -- what makes the record whole again once nexus n has the scope
 record Ready (n scope : ℕ) (s : State) : Type 0 where
@@ -137,12 +139,12 @@ ready-near s n x range r =
         let some : 0 < held n s = count-some (λ (p : ℕ). owns n) noSet (s .sets) place (used-within s place u) o in
         absurd (omega (arith, some, r .shared (eqb-false _ _ t))))
 
--- the record with the sender settled is well formed
-settled-kept : (s : State) (n : ℕ) (page : Page) → page .scope ≤ 2 → Ready n (page .scope) s → wellFormed (settled s n page) ≡ true
-unfolding settled
+-- the record with the sender after its page is well formed
+settled-kept : (s : State) (n : ℕ) (page : Page) → page .scope ≤ 2 → Ready n (page .scope) s → wellFormed (senderAfter s n page) ≡ true
+unfolding senderAfter
 settled-kept s n page range r =
-    let x : Nexus = settledNexus page (selectedSet (atNexus n (withScope (page .scope)) s) n .number) (nexusAt s n) in
-    near-well (settled s n page) (ready-near s n x range r)
+    let x : Nexus = nexusAfter page (selectedSet (atNexus n (withScope (page .scope)) s) n .number) (nexusAt s n) in
+    near-well (senderAfter s n page) (ready-near s n x range r)
 
 -- ---- the sender's own place, and a place for its LOCAL set
 
@@ -161,7 +163,7 @@ module _ (s : State) (w : wellFormed s ≡ true) (n : ℕ) where
   own-by : (P : Found → Type 0) → ((k : ℕ) → k < length (s .sets) → 0 < k → owns n (setAt s k) ≡ true → held n s ≡ 1 → P (At k)) → (held n s ≡ 0 → P Nowhere) → P (ownPlace s n)
   unfolding ownPlace ownedPlace
   own-by P at none =
-      pick-elim P (eqb (nexusAt s n .scope) localScope)
+      if-elim P (eqb (nexusAt s n .scope) localScope)
       (λ t.
       let one : held n s ≡ 1 = nexus-at s w n .local (eqb-true _ _ t) in
       find-counted (λ (p : ℕ). owns n) noSet At Nowhere P (s .sets) (λ k l o. at k l (own s w n k o .later) o one) (omega (arith, one)))
@@ -176,7 +178,7 @@ record Vacant (s : State) (n place : ℕ) : Type 0 where
 -- what a place for nexus n's LOCAL set is
 abbrev RoomFit : State → ℕ → Room → Type 0
 RoomFit s n (Free place) = Vacant s n place
-RoomFit s n (Taken place) = (Vacant s n place) × (held n s ≡ 0)
+RoomFit s n (Evicting place) = (Vacant s n place) × (held n s ≡ 0)
 RoomFit s n NoRoom = Unit
 
 -- a place other than 0 comes after it
@@ -185,11 +187,11 @@ not-zero k e = let z : k ≡ 0 → ⊥ = eqb-false k 0 (not-true _ e) in omega (
 
 module _ (s : State) (w : wellFormed s ≡ true) (n : ℕ) where
   -- where the nexus owns none, the lowest empty place, else the lowest whose owner has lock 0
-  vacant-found : held n s ≡ 0 → RoomFit s n (freeAt (find At Nowhere emptyLocal (s .sets)) (takenAt (find At Nowhere (unlockedLocal s) (s .sets))))
+  vacant-found : held n s ≡ 0 → RoomFit s n (freeAt (find At Nowhere emptyLocal (s .sets)) (evictingAt (find At Nowhere (unlockedLocal s) (s .sets))))
   vacant-found z =
-      find-by At Nowhere emptyLocal noSet (λ f. RoomFit s n (freeAt f (takenAt (find At Nowhere (unlockedLocal s) (s .sets))))) (s .sets)
+      find-by At Nowhere emptyLocal noSet (λ f. RoomFit s n (freeAt f (evictingAt (find At Nowhere (unlockedLocal s) (s .sets))))) (s .sets)
       (λ k l t. record { within = l; later = not-zero k (and-left _ _ t); others = z ∙ sym (ap bit (unowned (setAt s k) (and-right (not (eqb k 0)) _ t))) })
-      (find-by At Nowhere (unlockedLocal s) noSet (λ f. RoomFit s n (takenAt f)) (s .sets)
+      (find-by At Nowhere (unlockedLocal s) noSet (λ f. RoomFit s n (evictingAt f)) (s .sets)
       (λ k l t. (record { within = l; later = not-zero k (and-left _ _ t); others = z ∙ sym (ap bit (unowned-at k l)) }, z))
       tt)
     where
@@ -206,7 +208,7 @@ module _ (s : State) (w : wellFormed s ≡ true) (n : ℕ) where
   room-fit : RoomFit s n (room s n)
   unfolding room
   room-fit =
-      own-by s w n (λ f. RoomFit s n (freeAt f (freeAt (find At Nowhere emptyLocal (s .sets)) (takenAt (find At Nowhere (unlockedLocal s) (s .sets))))))
+      own-by s w n (λ f. RoomFit s n (freeAt f (freeAt (find At Nowhere emptyLocal (s .sets)) (evictingAt (find At Nowhere (unlockedLocal s) (s .sets))))))
       (λ k l z o c. record { within = l; later = z; others = c ∙ sym (ap bit o) })
       vacant-found
 
@@ -268,7 +270,7 @@ module _ (s : State) (w : wellFormed s ≡ true) (n : ℕ) (here : n < length (s
   room-ready : (fields : Fields) → SetFit fields → (r : Room) → (r ≡ NoRoom → ⊥) → RoomFit s n r → Ready n localScope (acts s (establishIn r n fields))
   unfolding acts
   room-ready fields f (Free place) ne v = local-ready s n place fields here f (near-of (only n) s w) v
-  room-ready fields f (Taken place) ne v =
+  room-ready fields f (Evicting place) ne v =
       let gone : held n (act s (release place)) ≡ 0 = release-count s n place (v .0 .within) (v .0 .others) in
       local-ready (act s (release place)) n place fields (subst (λ (k : ℕ). n < k) (sym (act-size s (release place) .nexuses)) here) f (release-near (only n) s place (near-of (only n) s w))
       (record {
@@ -282,14 +284,14 @@ module _ (s : State) (w : wellFormed s ≡ true) (n : ℕ) (here : n < length (s
   page-ready : (page : Page) → 0 < length (s .sets) → Fit s n page → page .supplemental ≡ false → Ready n (page .scope) (acts s (pageActions s n page))
   unfolding pageActions acts
   page-ready page some fit plain =
-      pick-elim (λ (actions : List Action). Ready n (page .scope) (acts s actions)) (page .supplemental)
+      if-elim (λ (actions : List Action). Ready n (page .scope) (acts s actions)) (page .supplemental)
       (λ t. clash t plain)
-      (λ _. pick-elim (λ (actions : List Action). Ready n (page .scope) (acts s actions)) (eqb (page .scope) localScope)
+      (λ _. if-elim (λ (actions : List Action). Ready n (page .scope) (acts s actions)) (eqb (page .scope) localScope)
       (λ t.
       let e : page .scope ≡ localScope = eqb-true _ _ t in
       subst (λ (k : ℕ). Ready n k (acts s (establishIn (room s n) n (page .fields)))) (sym e)
       (room-ready (page .fields) (fit .fields plain (omega (arith, e))) (room s n) (fit .place plain e) (room-fit s w n)))
-      (λ f. pick-elim (λ (actions : List Action). Ready n (page .scope) (acts s actions)) (eqb (page .scope) allScope)
+      (λ f. if-elim (λ (actions : List Action). Ready n (page .scope) (acts s actions)) (eqb (page .scope) allScope)
       (λ t.
       let e : page .scope ≡ allScope = eqb-true _ _ t in
       subst (λ (x : State). Ready n (page .scope) x) (sym (acts-append s (releaseOwn s n) (establish 0 n allScope (page .fields) ∷ [])))
@@ -322,7 +324,7 @@ extended-past key x k past =
 -- a used set that has fewer than 4 keys stays good with one more
 appended-good : (nexuses place : ℕ) (x : Set) (key : List ℕ) → length key ≡ keySize → x .supplemental .count < supplementalMost → used x ≡ true → GoodSet nexuses place x → GoodSet nexuses place (withSupplemental (appended key (x .supplemental)) x)
 appended-good nexuses place x key k fewer u g =
-    pick-elim (λ (y : Supplemental). GoodSet nexuses place (withSupplemental y x)) (leb supplementalMost (x .supplemental .count))
+    if-elim (λ (y : Supplemental). GoodSet nexuses place (withSupplemental y x)) (leb supplementalMost (x .supplemental .count))
     (λ t. clash t (lt-leb supplementalMost (x .supplemental .count) fewer))
     (λ f. record {
       owner = g .owner;
@@ -362,6 +364,6 @@ module _ (s : State) (w : wellFormed s ≡ true) (n : ℕ) where
 pub taken-kept : (s : State) (n : ℕ) (page : Page) → wellFormed s ≡ true → n < length (s .nexuses) → 0 < length (s .sets) → Fit s n page → wellFormed (taken s n page) ≡ true
 unfolding taken
 taken-kept s n page w here some fit =
-    pick-elim (λ (x : State). wellFormed x ≡ true) (page .supplemental)
+    if-elim (λ (x : State). wellFormed x ≡ true) (page .supplemental)
     (λ t. supplemented-kept s w n page (fit .key t))
     (λ f. settled-kept (acts s (pageActions s n page)) n page (fit .scope) (page-ready s w n here page some fit f))

@@ -8,11 +8,12 @@ use borrow.Author.Tests.{eqb-true, eq-eqb, ltb-true, ltb-false}
 use lib.Dec.{eqb, ltb}
 use lib.ListN.{length, set, length-set}
 use lib.Seq.{set-out}
-use Rattle.arrays.specs.Base.{pick, bit}
+use Rattle.arrays.specs.Base.{if_then_else_, bit}
 use Rattle.arrays.specs.Arrays.{count}
 use Rattle.arrays.proofs.Base.{cases, clash, both, and-left, and-right}
 use Rattle.arrays.proofs.Laws.{getD-set-by}
-use Rattle.device.specs.Record.{State, setAt, nexusAt, noSet, newNexus, used, publicScope, localScope, allScope}
+use Rattle.parameters.specs.Codes.{publicScope, localScope, allScope}
+use Rattle.device.specs.Record.{State, setAt, nexusAt, noSet, newNexus, used}
 use Rattle.device.specs.Selecting.{owns, ownedPlace, orElse, selected}
 use Rattle.device.specs.WellFormed.{setGood, hasAll, wellFormed}
 use Rattle.device.specs.declared.Set.{Set}
@@ -115,13 +116,13 @@ module _ (s : State) (a : Action) where
 
   -- a nexus that uses another place stays as it is
   pub stays : (i : ℕ) → eqb (selected s i) (a .place) ≡ false → nexusAt (act s a) i ≡ nexusAt s i
-  stays i e = act-nexus s a i ∙ ap (λ (b : Bool). pick b (withScope publicScope (nexusAt s i)) (nexusAt s i)) e
+  stays i e = act-nexus s a i ∙ ap (λ (b : Bool). if b then withScope publicScope (nexusAt s i) else nexusAt s i) e
 
   -- one that is not PUBLIC afterwards uses another place
   pub elsewhere : (i : ℕ) → 0 < nexusAt (act s a) i .scope → eqb (selected s i) (a .place) ≡ false
   elsewhere i h =
       cases (eqb (selected s i) (a .place))
-      (λ e. let z : nexusAt (act s a) i .scope ≡ 0 = ap (λ (x : Nexus). x .scope) (act-nexus s a i ∙ ap (λ (b : Bool). pick b (withScope publicScope (nexusAt s i)) (nexusAt s i)) e) in
+      (λ e. let z : nexusAt (act s a) i .scope ≡ 0 = ap (λ (x : Nexus). x .scope) (act-nexus s a i ∙ ap (λ (b : Bool). if b then withScope publicScope (nexusAt s i) else nexusAt s i) e) in
       absurd (omega (arith, z)))
       (λ e. e)
 

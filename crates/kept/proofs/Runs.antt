@@ -12,7 +12,7 @@ use Rattle.device.specs.WellFormed.{wellFormed}
 use Rattle.device.proofs.WellFormed.{power-on-well}
 use Rattle.places.proofs.Lengths.{SameSize, power-places, power-nexuses}
 use Rattle.drive.specs.Calls.{Call}
-use Rattle.drive.specs.Answers.{recordCheck}
+use Rattle.drive.specs.Checks.{recordCheck}
 use Rattle.drive.specs.Effects.{effect}
 use Rattle.drive.specs.After.{byNumber, after}
 use Rattle.drive.specs.Runs.{runFrom, run}

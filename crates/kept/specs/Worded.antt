@@ -2,7 +2,8 @@
 use Prim.Native.Nat.{ℕ}
 use mathlib.Core.Bool.{Bool, _&&_, _||_}
 use lib.Dec.{eqb}
-use Rattle.device.specs.Record.{State, setAt, nexusAt, localScope, allScope}
+use Rattle.parameters.specs.Codes.{localScope, allScope}
+use Rattle.device.specs.Record.{State, setAt, nexusAt}
 use Rattle.device.specs.Selecting.{owns}
 
 -- "nexuses that were LOCAL there, or ALL for place 0": the nexus is LOCAL and owns the place, or is ALL and the place is 0

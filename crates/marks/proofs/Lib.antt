@@ -1,3 +1,2 @@
 pub mod Telling
-pub mod Settled
 pub mod Worked

@@ -22,7 +22,7 @@ pub fn change_marks(d: Device, n: u8, change: Change) -> Device
     let mut nexuses = d.nexuses;
     if at < NEXUSES {
         let nexus = nexuses[at];
-        nexuses[at] = marks::remark(nexus, change);
+        nexuses[at] = marks_code::remark(nexus, change);
     }
     let mut out = d;
     out.nexuses = nexuses;
@@ -50,7 +50,7 @@ fn is_told(
 ) -> bool
     ensures { λ r. ⌜ r ≡ toldIn was nexus n actor old new ⌝ }
 {
-    if !marks::is_asked(was, actor, n) {
+    if !marks_code::is_asked(was, actor, n) {
         return false;
     }
     is_different(was, nexus, n, old, new)
@@ -63,7 +63,7 @@ fn nobody_asked(old: [Nexus; NEXUSES], actor: Actor) -> bool
     let mut none = true;
     for n in 0..NEXUSES {
         let was = old[n];
-        none = none & !marks::is_asked(was, actor, n);
+        none = none & !marks_code::is_asked(was, actor, n);
     }
     none
 }
@@ -79,7 +79,7 @@ fn alert_all(before: Device, after: Device, actor: Actor) -> [Nexus; NEXUSES]
         let was = old[n];
         let nexus = out[n];
         if is_told(was, nexus, n, actor, old_sets, new_sets) {
-            out[n] = marks::alert(nexus, actor, true);
+            out[n] = marks_code::alert(nexus, actor, true);
         }
     }
     out
@@ -104,7 +104,7 @@ fn cleared(nexuses: [Nexus; NEXUSES]) -> [Nexus; NEXUSES]
     ensures { λ r. ⌜ r ≡ map unmarked nexuses ⌝ }
 {
     let mut out = nexuses;
-    marks::clear_marks(&mut out);
+    marks_code::clear_marks(&mut out);
     out
 }
 

@@ -2,30 +2,33 @@
 -- Assumes nothing.
 use mathlib.Core.Path.{_≡_, refl, ap}
 use mathlib.Core.Bool.{Bool, true, false, _&&_}
-use mathlib.Core.Logic.{_⊎_, inl, inr, ⊎-elim}
+use mathlib.Core.Logic.{_⊎_, inl, inr}
 use mathlib.Core.List.{List, [], _∷_}
 use Prim.Native.Nat.{ℕ, _+_, _<_, _≤_}
 use native.Mathlib.Omega.{arith}
 use borrow.Author.Tests.{eqb-true, eqb-false, leb-true, leb-false, ltb-false}
 use lib.Dec.{ltb, leb, eqb}
 use lib.ListN.{length, take, drop}
-use Rattle.arrays.specs.Base.{pick}
-use Rattle.arrays.proofs.Base.{cases, and-left, and-right, both, pick-elim}
+use Rattle.arrays.specs.Base.{if_then_else_}
+use Rattle.arrays.proofs.Base.{cases, and-left, and-right, both, if-elim}
 use Rattle.wire.specs.Rules.{lengthWrong, Rule, breach}
 use Rattle.wire.proofs.Stores.{length-padded}
 use Rattle.wire.proofs.Rules.{AllHold, kept, under-more}
+use Rattle.wire.proofs.Lowest.{right-length}
 use Rattle.answer.specs.Answers.{numberOf}
 use Rattle.answer.specs.declared.Answer.{Answer}
 use Rattle.answer.specs.declared.Answer.the-variants.{Done, PageLengthWrong, FieldWrong, FifthSupplementalKey}
 use Rattle.kad.specs.Kad.{noKads}
 use Rattle.kad.specs.declared.Seen.the-variants.{Nothing}
 use Rattle.kad.proofs.Good.{Good, good-none, good-listed}
-use Rattle.page.specs.Fields.{headSize, keySize, scopeOf, isPublic, sdkOf, encryptionOf, decryptionOf, indexOf, keyLengthOf, keyEnd, encrypts, decrypts, listOf, listedOf, onlyKey, noFields}
+use Rattle.parameters.specs.Codes.{encrypts, decrypts}
+use Rattle.parameters.specs.Fields.{keySize, onlyKey, noFields, supplementalMost}
+use Rattle.page.specs.Fields.{keyFrom, scopeOf, isPublic, sdkOf, encryptionOf, decryptionOf, indexOf, keyLengthOf, keyEnd, listOf, listedOf}
 use Rattle.page.specs.Rules.{openRules, modeRules, plainRules, setRules, matchRules, supplementalRules}
-use Rattle.page.specs.Check.{supplementalMost, refused, publicPage, supplementalPage, setPage, checked}
+use Rattle.page.specs.Check.{refusedPage, publicPage, supplementalPage, setPage, checked}
 use Rattle.page.specs.declared.Page.{Page}
 use Rattle.page.specs.declared.Checked.{Checked}
-use Rattle.page.proofs.Parts.{open-under, least-there, set-hold, supplemental-hold}
+use Rattle.page.proofs.Parts.{open-under, set-hold, supplemental-hold}
 
 -- a PUBLIC page: "only SCOPE and LOCK are read"
 pub record IsPublic (page : Page) : Type 0 where
@@ -65,13 +68,13 @@ pub record IsSet (page : Page) : Type 0 where
 -- the rules that point to byte i hold
 abbrev heldAt : ℕ → List Rule → Bool
 heldAt i [] = true
-heldAt i (r ∷ rules) = pick (eqb (r .at) i) (r .holds && heldAt i rules) (heldAt i rules)
+heldAt i (r ∷ rules) = if eqb (r .at) i then r .holds && heldAt i rules else heldAt i rules
 
 -- they do where all rules hold
 held-at : (i : ℕ) (rules : List Rule) → AllHold rules → heldAt i rules ≡ true
 held-at i [] h = refl
 held-at i (r ∷ rules) h =
-    pick-elim (λ (b : Bool). b ≡ true) (eqb (r .at) i) (λ e. both (r .holds) (heldAt i rules) (h .0) (held-at i rules (h .1))) (λ e. held-at i rules (h .1))
+    if-elim (λ (b : Bool). b ≡ true) (eqb (r .at) i) (λ e. both (r .holds) (heldAt i rules) (h .0) (held-at i rules (h .1))) (λ e. held-at i rules (h .1))
 
 -- SCOPE is known
 scope-known : (p : List ℕ) → AllHold (openRules p) → scopeOf p ≤ 2
@@ -117,11 +120,11 @@ list-good encryption rest =
 
 -- a refusal isn't done
 past-refusal : (P : Checked → Type 0) (b : Bool) (answer : Answer) (fault : ℕ) (y : Checked) → (numberOf answer ≡ 0 → ⊥)
-    → (b ≡ false → y .answer ≡ Done → P y) → pick b (refused answer fault) y .answer ≡ Done → P (pick b (refused answer fault) y)
+    → (b ≡ false → y .answer ≡ Done → P y) → (if b then refusedPage answer fault else y) .answer ≡ Done → P (if b then refusedPage answer fault else y)
 past-refusal P true answer fault y n f e = absurd (n (ap numberOf e))
 past-refusal P false answer fault y n f e = f refl e
 
-module _ (p : List ℕ) (long : headSize ≤ length p) (opens : AllHold (openRules p)) (used : isPublic p ≡ false) where
+module _ (p : List ℕ) (long : keyFrom ≤ length p) (opens : AllHold (openRules p)) (used : isPublic p ≡ false) where
   -- LOCAL or ALL
   scope-in : (1 ≤ scopeOf p) × (scopeOf p ≤ 2)
   scope-in = let some = eqb-false (scopeOf p) 0 used in (omega arith, scope-known p opens)
@@ -144,7 +147,7 @@ module _ (p : List ℕ) (long : headSize ≤ length p) (opens : AllHold (openRul
         same = scope-same p scope mode held;
         deciphers = two-or-three mode (mode-decrypts p scope mode held);
         room = leb-false supplementalMost count u;
-        sized = length-padded keySize (take (keyLengthOf p) (drop headSize p));
+        sized = length-padded keySize (take (keyLengthOf p) (drop keyFrom p));
         fields = refl;
       }))
 
@@ -167,7 +170,7 @@ module _ (p : List ℕ) (long : headSize ≤ length p) (opens : AllHold (openRul
         decryption = decryption-known p (held .0);
         index = index-known p (held .1 .0);
         ceem = omega arith;
-        sized = length-padded keySize (take (keyLengthOf p) (drop headSize p));
+        sized = length-padded keySize (take (keyLengthOf p) (drop keyFrom p));
         kads = list-good (encryptionOf p) (drop (keyEnd p) p);
       }))
 
@@ -179,16 +182,11 @@ accepted-page p scope mode count =
     let n = length p in
     let fault = breach (openRules p) n in
     let P : Checked → Type 0 = λ c. IsPublic (c .page) ⊎ (IsSupplemental scope mode count (c .page) ⊎ IsSet (c .page)) in
-    past-refusal P (lengthWrong headSize p) PageLengthWrong 0 _ (λ z. omega arith)
+    past-refusal P (lengthWrong keyFrom p) PageLengthWrong 0 _ (λ z. omega arith)
     (λ e.
-    let long = least-there headSize p e in
+    let long = right-length keyFrom p e .0 in
     past-refusal P (ltb fault n) FieldWrong fault _ (λ z. omega arith)
     (λ t.
     let opens = kept (openRules p) n n (under-more (openRules p) 5 n (omega arith) (open-under p)) (ltb-false fault n t) in
-    pick-elim (λ (c : Checked). c .answer ≡ Done → P c) (isPublic p) (λ u d. inl (record { public = refl; fresh = refl; fields = refl }))
-    (λ u. pick-elim (λ (c : Checked). c .answer ≡ Done → P c) (sdkOf p) (λ v d. inr (inl (supplemental-accepted p long opens u scope mode count d))) (λ v d. inr (inr (set-accepted p long opens u d))))))
-
--- so its scope is PUBLIC, LOCAL or ALL
-pub accepted-scope : (p : List ℕ) (scope mode count : ℕ) → checked p scope mode count .answer ≡ Done → checked p scope mode count .page .scope ≤ 2
-accepted-scope p scope mode count e =
-    ⊎-elim (λ x. omega (arith, x .public)) (λ x. ⊎-elim (λ y. y .scoped .known) (λ y. y .scoped .known) x) (accepted-page p scope mode count e)
+    if-elim (λ (c : Checked). c .answer ≡ Done → P c) (isPublic p) (λ u d. inl (record { public = refl; fresh = refl; fields = refl }))
+    (λ u. if-elim (λ (c : Checked). c .answer ≡ Done → P c) (sdkOf p) (λ v d. inr (inl (supplemental-accepted p long opens u scope mode count d))) (λ v d. inr (inr (set-accepted p long opens u d))))))

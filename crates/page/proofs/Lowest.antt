@@ -3,33 +3,34 @@
 use mathlib.Core.Path.{_≡_, refl, sym, ap, _∙_}
 use mathlib.Core.Bool.{true, false}
 use mathlib.Core.Logic.{_⊎_, inl, inr, ⊎-elim}
-use mathlib.Core.List.{List, [], _∷_, _++_}
-use Prim.Native.Nat.{ℕ, zero, suc, _+_, _<_, _≤_}
+use mathlib.Core.List.{List, [], _++_}
+use Prim.Native.Nat.{ℕ, _+_, _<_, _≤_}
 use native.Mathlib.Nat.{le-refl, add-zero}
 use native.Mathlib.Omega.{arith}
 use borrow.Author.Tests.{ltb-true, ltb-false, leb-true, le-leb}
 use lib.Dec.{ltb, leb}
 use lib.ListN.{length, drop, length-drop}
-use Rattle.arrays.proofs.Base.{cases, clash}
-use Rattle.wire.specs.Rules.{lengthWrong, Rule, breach, BreaksAt}
-use Rattle.wire.proofs.Rules.{AllHold, Under, kept, none, low, high, Sorted, lowest, breaks, sorted-from, sorted-append, hold-append, under-append, under-more, zeros-sorted}
+use Rattle.arrays.proofs.Base.{cases}
+use Rattle.wire.specs.Rules.{lengthWrong, Rule, breach, BreaksAt, Lowest}
+use Rattle.wire.proofs.Rules.{AllHold, Under, kept, none, low, high, Sorted, sorted-from, sorted-append, hold-append, under-append, under-more, zeros-sorted}
+use Rattle.wire.proofs.Lowest.{right-length, lowest-of, hold-none}
 use Rattle.answer.specs.Answers.{numberOf}
 use Rattle.answer.specs.declared.Answer.{Answer}
 use Rattle.answer.specs.declared.Answer.the-variants.{Done, PageLengthWrong, FieldWrong, FifthSupplementalKey}
-use Rattle.kad.specs.Kad.{noKads, withData}
-use Rattle.kad.specs.Reading.{headSize as descriptorHead, dataOf, nextOf, descriptorRules, listed}
-use Rattle.kad.specs.Rules.{shifted, listRules}
-use Rattle.kad.specs.declared.Kads.{Kads}
-use Rattle.kad.specs.declared.Seen.{Seen}
-use Rattle.kad.specs.declared.Seen.the-variants.{Nothing, Last}
-use Rattle.kad.proofs.Reading.{rules-hold, room, fault-lt}
-use Rattle.kad.proofs.Lowest.{list-sorted, first-fault}
-use Rattle.page.specs.Fields.{isPublic, sdkOf, reservedFrom, reservedBytes, headSize, keySize, encryptionOf, decryptionOf, keyEnd, encrypts, listOf, listedOf}
+use Rattle.answer.proofs.Numbers.{differ}
+use Rattle.kad.specs.Kad.{noKads}
+use Rattle.kad.specs.Reading.{listed}
+use Rattle.kad.specs.Rules.{listRules}
+use Rattle.kad.specs.declared.Seen.the-variants.{Nothing}
+use Rattle.kad.proofs.Lowest.{list-sorted, list-hold, first-fault}
+use Rattle.parameters.specs.Codes.{encrypts}
+use Rattle.parameters.specs.Fields.{keySize, supplementalMost}
+use Rattle.page.specs.Fields.{isPublic, sdkOf, reservedFrom, reservedBytes, keyFrom, encryptionOf, decryptionOf, keyEnd, listOf, listedOf}
 use Rattle.page.specs.Rules.{openRules, modeRules, plainRules, keyLength, keyRules, setRules, matchRules, endRules, supplementalRules}
-use Rattle.page.specs.Check.{refused, supplementalMost, publicPage, supplementalPage, setPage, checked}
-use Rattle.page.specs.Lowest.{afterRules, innerRules, pageRules, Lowest}
+use Rattle.page.specs.Check.{refusedPage, publicPage, supplementalPage, setPage, checked}
+use Rattle.page.specs.Lowest.{afterRules, innerRules, pageRules}
 use Rattle.page.specs.declared.Checked.{Checked}
-use Rattle.page.proofs.Parts.{open-under, mode-under, match-under, plain-under, key-under, least-there, set-hold, supplemental-hold, key-fits}
+use Rattle.page.proofs.Parts.{open-under, mode-under, match-under, plain-under, key-under, set-hold, supplemental-hold, key-fits}
 
 -- ---- they stand in the order of their bytes
 
@@ -94,47 +95,7 @@ open-sorted p ys s = (omega arith, (omega arith, s))
 pub page-sorted : (p : List ℕ) (scope mode : ℕ) → Sorted 0 (pageRules p scope mode)
 page-sorted p scope mode = open-sorted p (innerRules p scope mode) (inner-sorted p scope mode)
 
--- ---- the lowest byte
-
--- the first breach of rules in order, where it lies before the end
-lowest-of : (rules : List Rule) (top i : ℕ) → Sorted 0 rules → i ≡ breach rules top → i < top → Lowest i rules
-lowest-of rules top i s e l = record {
-  broken = rw e (⊎-elim (λ t. absurd (omega arith)) (λ b. b) (breaks rules top));
-  least = λ j b. rw e (lowest rules top 0 j s b);
-}
-
--- rules that hold break at no byte
-pub hold-none : (rules : List Rule) (i : ℕ) → AllHold rules → BreaksAt i rules → ⊥
-hold-none [] i h b = b
-hold-none (r ∷ rules) i h b = ⊎-elim (λ x. clash (h .0) (x .1)) (λ x. hold-none rules i (h .1) x) b
-
 -- ---- the descriptors, or none
-
--- rules that hold do so wherever they point
-shifted-hold : (i : ℕ) (rules : List Rule) → AllHold rules → AllHold (shifted i rules)
-shifted-hold i [] h = tt
-shifted-hold i (r ∷ rules) h = (h .0, shifted-hold i rules (h .1))
-
--- where all bytes of a list of descriptors are good, every rule holds
-list-hold : (n i : ℕ) (s : List ℕ) (seen : Seen) (k : Kads) → length s ≤ n → length s ≤ listed n s seen k .good → AllHold (listRules n i s seen)
-unfolding listed listRules
-list-hold zero i s seen k h e = tt
-list-hold (suc n) i [] seen k h e = tt
-list-hold (suc n) i (b ∷ s) seen k h e =
-    let l = b ∷ s in
-    let next = nextOf l in
-    let rest = drop next l in
-    let rules = descriptorRules l seen in
-    let fault = breach rules descriptorHead in
-    cases (ltb fault descriptorHead)
-    (λ t. let ends : length l ≤ fault = rw t at e in absurd (omega (arith, fault-lt l seen (omega arith) (ltb-true _ _ t))))
-    (λ t.
-    let past : descriptorHead ≤ fault = ltb-false fault descriptorHead t in
-    let fits = room l seen past .0 in
-    let more = withData k b (dataOf l) in
-    let size = length-drop next l in
-    let ends : length l ≤ next + listed n rest (Last b) more .good = rw t at e in
-    hold-append (shifted i rules) (listRules n (i + next) rest (Last b)) (shifted-hold i rules (rules-hold l seen past)) (list-hold n (i + next) rest (Last b) more (omega arith) (omega arith)))
 
 -- the first fault after the key is where the first rule breaks
 after-fault : (p : List ℕ) → keyEnd p ≤ length p → keyEnd p + listedOf p .good ≡ breach (afterRules p) (length p)
@@ -190,7 +151,7 @@ Verdict rules c = Wrong rules c ⊎ Right rules c
 
 module _ (p : List ℕ) (ys : List Rule) (sorted : Sorted 4 ys) (opens : AllHold (openRules p)) where
   -- where the page code and the scope are right, a breach of the others before the page's end is the lowest
-  others-wrong : (i : ℕ) → i ≡ breach ys (length p) → i < length p → Verdict (openRules p ++ ys) (refused FieldWrong i)
+  others-wrong : (i : ℕ) → i ≡ breach ys (length p) → i < length p → Verdict (openRules p ++ ys) (refusedPage FieldWrong i)
   others-wrong i e l =
       let first = high (openRules p) ys (length p) 5 5 (open-under p) (sym (none (openRules p) 5 opens)) (le-refl 5) in
       inl (record { told = refl; fault = lowest-of (openRules p ++ ys) (length p) i (open-sorted p ys sorted) (e ∙ sym first) l })
@@ -199,7 +160,7 @@ module _ (p : List ℕ) (ys : List Rule) (sorted : Sorted 4 ys) (opens : AllHold
   others-right : (c : Checked) → (c .answer ≡ Done) ⊎ (c .answer ≡ FifthSupplementalKey) → AllHold ys → Verdict (openRules p ++ ys) c
   others-right c t h = inr (record { told = t; holds = hold-append (openRules p) ys opens h })
 
-module _ (p : List ℕ) (long : headSize ≤ length p) (opens : AllHold (openRules p)) where
+module _ (p : List ℕ) (long : keyFrom ≤ length p) (opens : AllHold (openRules p)) where
   -- a page with SDK 1
   supplemental-verdict : (scope mode count : ℕ) → Verdict (openRules p ++ supplementalRules p scope mode) (supplementalPage p scope mode count)
   unfolding supplementalPage
@@ -210,7 +171,7 @@ module _ (p : List ℕ) (long : headSize ≤ length p) (opens : AllHold (openRul
       cases (ltb fault (length p)) (λ t. rw t (others-wrong p rules sorted opens fault refl (ltb-true fault (length p) t)))
       (λ t.
       let all = supplemental-all p scope mode (supplemental-hold p scope mode long (ltb-false fault (length p) t)) in
-      cases (leb supplementalMost count) (λ u. rw (t, u) (others-right p rules sorted opens (refused FifthSupplementalKey 0) (inr refl) all))
+      cases (leb supplementalMost count) (λ u. rw (t, u) (others-right p rules sorted opens (refusedPage FifthSupplementalKey 0) (inr refl) all))
       (λ u. rw (t, u) (others-right p rules sorted opens _ (inl refl) all)))
 
   -- a page with SDK 0
@@ -236,10 +197,10 @@ module _ (p : List ℕ) (long : headSize ≤ length p) (opens : AllHold (openRul
       (λ u. rw (t, u) (others-right p rules sorted opens _ (inl refl) (hold-append (setRules p) (afterRules p) (set-all p held) (after-hold p fits (ltb-false end n u))))))
 
 -- A page whose length isn't wrong is answered 8 with the lowest byte at which a rule breaks, or every rule holds and it is done or a fifth supplemental key.
-pub page-verdict : (p : List ℕ) (scope mode count : ℕ) → lengthWrong headSize p ≡ false → Verdict (pageRules p scope mode) (checked p scope mode count)
+pub page-verdict : (p : List ℕ) (scope mode count : ℕ) → lengthWrong keyFrom p ≡ false → Verdict (pageRules p scope mode) (checked p scope mode count)
 unfolding checked innerRules publicPage
 page-verdict p scope mode count e =
-    let long = least-there headSize p e in
+    let long = right-length keyFrom p e .0 in
     let n = length p in
     let fault = breach (openRules p) n in
     let under = under-more (openRules p) 5 n (omega arith) (open-under p) in
@@ -253,19 +214,15 @@ page-verdict p scope mode count e =
     (λ u. cases (sdkOf p) (λ v. rw (e, t, u, v) (supplemental-verdict p long opens scope mode count)) (λ v. rw (e, t, u, v) (set-verdict p long opens))))
 
 -- a page whose length is wrong is answered 7
-pub length-verdict : (p : List ℕ) (scope mode count : ℕ) → lengthWrong headSize p ≡ true → checked p scope mode count ≡ refused PageLengthWrong 0
+pub length-verdict : (p : List ℕ) (scope mode count : ℕ) → lengthWrong keyFrom p ≡ true → checked p scope mode count ≡ refusedPage PageLengthWrong 0
 unfolding checked
 length-verdict p scope mode count e = rw e refl
-
--- answers with different numbers differ
-differ : {C : Type 0} {a : Answer} (x y : Answer) → (numberOf x ≡ numberOf y → ⊥) → a ≡ x → a ≡ y → C
-differ x y n d e = absurd (n (ap numberOf (sym d ∙ e)))
 
 module _ (p : List ℕ) (scope mode count : ℕ) where
   -- what follows from an answer that isn't 7
   not-seven : {C : Type 0} (a : Answer) → (numberOf a ≡ 7 → ⊥) → checked p scope mode count .answer ≡ a → (Verdict (pageRules p scope mode) (checked p scope mode count) → C) → C
   not-seven a n e f =
-      cases (lengthWrong headSize p) (λ t. differ PageLengthWrong a (λ z. n (sym z)) (ap (λ (x : Checked). x .answer) (length-verdict p scope mode count t)) e) (λ t. f (page-verdict p scope mode count t))
+      cases (lengthWrong keyFrom p) (λ t. differ PageLengthWrong a (λ z. n (sym z)) (ap (λ (x : Checked). x .answer) (length-verdict p scope mode count t)) e) (λ t. f (page-verdict p scope mode count t))
 
   -- Where the answer is 8, a rule of the page breaks at the faulty byte, and none at a lower byte.
   pub wrong-is-lowest : checked p scope mode count .answer ≡ FieldWrong → Lowest (checked p scope mode count .fault) (pageRules p scope mode)

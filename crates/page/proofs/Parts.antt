@@ -1,19 +1,19 @@
 -- The parts of a page's rules: bytes 4 to 7, bytes 8 to 17, the key, the end.
 -- Assumes nothing.
 use mathlib.Core.Path.{_≡_, sym, _∙_}
-use mathlib.Core.Bool.{true, false, not}
-use mathlib.Core.List.{List, [], _∷_, _++_}
+use mathlib.Core.List.{List, _++_}
 use Prim.Native.Nat.{ℕ, _+_, _<_, _≤_}
-use native.Mathlib.Nat.{le-refl, le-of-lt, not-le-of-lt, zero-add}
+use native.Mathlib.Nat.{not-le-of-lt}
 use native.Mathlib.Omega.{arith}
-use borrow.Author.Tests.{eqb-true, ltb-false, leb-true, leb-false}
-use lib.Dec.{ltb, leb, eqb}
+use borrow.Author.Tests.{eqb-true, leb-true, leb-false}
+use lib.Dec.{leb}
 use lib.ListN.{length, drop, length-take}
-use Rattle.arrays.proofs.Base.{cases, clash, or-left, pick-elim}
-use Rattle.wire.specs.Numbers.{wordAt}
-use Rattle.wire.specs.Rules.{lengthWrong, Rule, breach, zeroRules}
+use Rattle.arrays.proofs.Base.{cases}
+use Rattle.wire.specs.Rules.{Rule, breach, zeroRules}
 use Rattle.wire.proofs.Rules.{AllHold, Under, kept, low, high, rest, under-more, zeros-under}
-use Rattle.page.specs.Fields.{reservedFrom, reservedSize, reservedBytes, headSize, keySize, keyedSize, encryptionOf, decryptionOf, keyLengthOf, keyEnd}
+use Rattle.wire.proofs.Lowest.{first-hold}
+use Rattle.parameters.specs.Fields.{keySize}
+use Rattle.page.specs.Fields.{reservedFrom, reservedSize, reservedBytes, keyFrom, keyedSize, encryptionOf, decryptionOf, keyLengthOf, keyEnd}
 use Rattle.page.specs.Rules.{openRules, modeRules, plainRules, keyLength, keyRules, setRules, matchRules, endRules, supplementalRules}
 
 -- ---- the bytes that each part points to
@@ -46,23 +46,6 @@ pub key-under : (p : List ℕ) (wanted m : ℕ) → 19 ≤ m → Under m (keyRul
 unfolding keyRules
 key-under p wanted m l = (omega arith, (omega arith, tt))
 
--- ---- rules in general
-
--- where no rule below m breaks, the first hold
-pub first-hold : (xs ys : List Rule) (top m : ℕ) → Under m xs → m ≤ breach (xs ++ ys) top → AllHold xs
-first-hold [] ys top m u l = tt
-first-hold (r ∷ xs) ys top m u l =
-    pick-elim (λ (x : ℕ). m ≤ x → (r .holds ≡ true) × AllHold xs) (r .holds) (λ e k. (e, first-hold xs ys top m (u .1) k)) (λ e k. absurd (not-le-of-lt (u .0) k)) l
-
--- where the rules point below the end, so does the first breach, or it is the end
-pub breach-within : (rs : List Rule) (top : ℕ) → Under top rs → breach rs top ≤ top
-breach-within [] top u = le-refl top
-breach-within (r ∷ rs) top u = pick-elim (λ (x : ℕ). x ≤ top) (r .holds) (λ e. breach-within rs top (u .1)) (λ e. le-of-lt (u .0))
-
--- the first byte that is not zero is one of the bytes
-pub first-within : (bytes : List ℕ) → breach (zeroRules 0 bytes) (length bytes) ≤ length bytes
-first-within bytes = breach-within (zeroRules 0 bytes) (length bytes) (rw zero-add at (zeros-under 0 bytes))
-
 -- ---- rules of bytes 4 to 7, then of bytes 8 to 17, then others
 
 -- a breach of the first is that of all
@@ -85,18 +68,10 @@ parts-hold xs ys p n u l h =
     let later = rest xs (plainRules p ++ ys) n n front h in
     (first-hold xs (plainRules p ++ ys) n n front h, (first-hold (plainRules p) ys n n plain later, rest (plainRules p) ys n n plain later))
 
--- ---- the length
-
--- a page whose length isn't wrong has at least its least bytes
-pub least-there : (least : ℕ) (p : List ℕ) → lengthWrong least p ≡ false → least ≤ length p
-least-there least p e =
-    let wrong = not (eqb (wordAt p 2 + 4) (length p)) in
-    cases (ltb (length p) least) (λ t. clash (or-left (ltb (length p) least) wrong t) e) (λ t. ltb-false _ _ t)
-
 -- ---- a page of which no rule breaks
 
 -- with SDK 0 each part holds
-pub set-hold : (p : List ℕ) → headSize ≤ length p → length p ≤ breach (setRules p) (length p) → AllHold (modeRules p) × (AllHold (plainRules p) × AllHold (keyRules p (keyLength (encryptionOf p) (decryptionOf p))))
+pub set-hold : (p : List ℕ) → keyFrom ≤ length p → length p ≤ breach (setRules p) (length p) → AllHold (modeRules p) × (AllHold (plainRules p) × AllHold (keyRules p (keyLength (encryptionOf p) (decryptionOf p))))
 unfolding setRules
 set-hold p l h =
     let wanted = keyLength (encryptionOf p) (decryptionOf p) in
@@ -109,7 +84,7 @@ unfolding endRules
 end-hold p h = cases (leb (length p) keyedSize) (λ e. (e, tt)) (λ e. absurd (not-le-of-lt (leb-false _ _ e) (rw e at h)))
 
 -- with SDK 1 too
-pub supplemental-hold : (p : List ℕ) (scope mode : ℕ) → headSize ≤ length p → length p ≤ breach (supplementalRules p scope mode) (length p)
+pub supplemental-hold : (p : List ℕ) (scope mode : ℕ) → keyFrom ≤ length p → length p ≤ breach (supplementalRules p scope mode) (length p)
     → AllHold (matchRules p scope mode) × (AllHold (plainRules p) × (AllHold (keyRules p keySize) × AllHold (endRules p)))
 unfolding supplementalRules
 supplemental-hold p scope mode l h =

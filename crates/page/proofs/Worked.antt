@@ -8,9 +8,10 @@ use Rattle.answer.specs.declared.Answer.the-variants.{PageLengthWrong, FieldWro
 use Rattle.kad.specs.Kad.{noKads, kadsOf}
 use Rattle.kad.specs.Reading.{descriptorRules, listed}
 use Rattle.kad.specs.declared.Kads.{Kads}
-use Rattle.page.specs.Fields.{noFields, onlyKey, listOf}
+use Rattle.parameters.specs.Fields.{noFields, onlyKey}
+use Rattle.page.specs.Fields.{setByte4, setByte5, listOf}
 use Rattle.page.specs.Rules.{openRules, modeRules, plainRules, keyRules, setRules, matchRules, endRules, supplementalRules}
-use Rattle.page.specs.Check.{refused, accepted, publicPage, supplementalPage, setPage, checked}
+use Rattle.page.specs.Check.{refusedPage, acceptedPage, publicPage, supplementalPage, setPage, checked}
 use Rattle.page.specs.declared.Checked.{Checked}
 
 -- ---- pages
@@ -47,6 +48,21 @@ k-bytes = refl
 -- their count
 k-length : length k ≡ 52
 k-length = refl
+
+-- SCOPE 1, locked
+k-byte-4 : setByte4 0x21 ≡ record { scope = 1; reserved = 0; lock = true }
+k-byte-4 = refl
+
+-- CEEM 1, CKOD
+k-byte-5 : setByte5 0x44 ≡ record { ceem = 1; rdmc = 0; sdk = false; ckod = true; ckorp = false; ckorl = false }
+k-byte-5 = refl
+
+-- every bit set
+full-4 : setByte4 0xFF ≡ record { scope = 7; reserved = 15; lock = true }
+full-4 = refl
+
+full-5 : setByte5 0xFF ≡ record { ceem = 3; rdmc = 3; sdk = true; ckod = true; ckorp = true; ckorl = true }
+full-5 = refl
 
 -- K with another byte 4
 abbrev k4 : ℕ → List ℕ
@@ -96,7 +112,7 @@ next count p outcome = record { page = p; scope = 1; mode = 2; count = count; ou
 
 -- a LOCAL set, locked, with K's CEEM and CKOD
 abbrev set : ℕ → ℕ → List ℕ → Kads → Checked
-set encryption decryption keyBytes kads = accepted (record {
+set encryption decryption keyBytes kads = acceptedPage (record {
   scope = 1;
   lock = true;
   supplemental = false;
@@ -116,11 +132,11 @@ set encryption decryption keyBytes kads = accepted (record {
 
 -- a supplemental key
 abbrev appended : Checked
-appended = accepted (record { scope = 1; lock = false; supplemental = true; fields = onlyKey key })
+appended = acceptedPage (record { scope = 1; lock = false; supplemental = true; fields = onlyKey key })
 
 -- a PUBLIC page
 abbrev public : Bool → Checked
-public lock = accepted (record { scope = 0; lock = lock; supplemental = false; fields = noFields })
+public lock = acceptedPage (record { scope = 0; lock = lock; supplemental = false; fields = noFields })
 
 -- pages that are accepted
 abbrev taken : List Row
@@ -149,48 +165,48 @@ taken =
 abbrev refusals : List Row
 refusals =
     -- P3: "K cut to 51 bytes: 7"; one byte more; fewer than 20 bytes
-    first (take 51 k) (refused PageLengthWrong 0)
-    ∷ first (k ++ 0 ∷ []) (refused PageLengthWrong 0)
-    ∷ first (page (replicate 15 0)) (refused PageLengthWrong 0)
+    first (take 51 k) (refusedPage PageLengthWrong 0)
+    ∷ first (k ++ 0 ∷ []) (refusedPage PageLengthWrong 0)
+    ∷ first (page (replicate 15 0)) (refusedPage PageLengthWrong 0)
     -- the page code
-    ∷ first (0x00 ∷ 0x11 ∷ 0x00 ∷ 16 ∷ replicate 16 0) (refused FieldWrong 0)
+    ∷ first (0x00 ∷ 0x11 ∷ 0x00 ∷ 16 ∷ replicate 16 0) (refusedPage FieldWrong 0)
     -- P3: "K with SCOPE 3 (byte 4 61h): 8"; a reserved bit of byte 4
-    ∷ first (k4 0x61) (refused FieldWrong 4)
-    ∷ first (k4 0x23) (refused FieldWrong 4)
+    ∷ first (k4 0x61) (refusedPage FieldWrong 4)
+    ∷ first (k4 0x23) (refusedPage FieldWrong 4)
     -- RDMC 01b under ENCRYPT
-    ∷ first (k5 0x54) (refused FieldWrong 5)
+    ∷ first (k5 0x54) (refusedPage FieldWrong 5)
     -- modes that there are not
-    ∷ first (modes 3 2 key) (refused FieldWrong 6)
-    ∷ first (modes 2 4 key) (refused FieldWrong 7)
+    ∷ first (modes 3 2 key) (refusedPage FieldWrong 6)
+    ∷ first (modes 2 4 key) (refusedPage FieldWrong 7)
     -- the algorithm index, the formats, the first and the last of bytes 11 to 17
-    ∷ first (kPlain (0 ∷ replicate 9 0)) (refused FieldWrong 8)
-    ∷ first (kPlain (1 ∷ 1 ∷ replicate 8 0)) (refused FieldWrong 9)
-    ∷ first (kPlain (1 ∷ 0 ∷ 1 ∷ replicate 7 0)) (refused FieldWrong 10)
-    ∷ first (kPlain (1 ∷ 0 ∷ 0 ∷ 1 ∷ replicate 6 0)) (refused FieldWrong 11)
-    ∷ first (kPlain (1 ∷ 0 ∷ 0 ∷ (replicate 6 0 ++ 1 ∷ []))) (refused FieldWrong 17)
+    ∷ first (kPlain (0 ∷ replicate 9 0)) (refusedPage FieldWrong 8)
+    ∷ first (kPlain (1 ∷ 1 ∷ replicate 8 0)) (refusedPage FieldWrong 9)
+    ∷ first (kPlain (1 ∷ 0 ∷ 1 ∷ replicate 7 0)) (refusedPage FieldWrong 10)
+    ∷ first (kPlain (1 ∷ 0 ∷ 0 ∷ 1 ∷ replicate 6 0)) (refusedPage FieldWrong 11)
+    ∷ first (kPlain (1 ∷ 0 ∷ 0 ∷ (replicate 6 0 ++ 1 ∷ []))) (refusedPage FieldWrong 17)
     -- a key too short, one that no mode needs, and one that runs past the page's end
-    ∷ first (modes 2 2 (rising 31 1)) (refused FieldWrong 18)
-    ∷ first (modes 0 1 key) (refused FieldWrong 18)
-    ∷ first (page (0x21 ∷ 0x44 ∷ 2 ∷ 2 ∷ (plain ++ 0 ∷ 32 ∷ rising 31 1))) (refused FieldWrong 18)
+    ∷ first (modes 2 2 (rising 31 1)) (refusedPage FieldWrong 18)
+    ∷ first (modes 0 1 key) (refusedPage FieldWrong 18)
+    ∷ first (page (0x21 ∷ 0x44 ∷ 2 ∷ 2 ∷ (plain ++ 0 ∷ 32 ∷ rising 31 1))) (refusedPage FieldWrong 18)
     -- P10: "of 33: 8; of 0: 8", at the length of the descriptor that stands at byte 52
-    ∷ first (kThen (ukad 33)) (refused FieldWrong 54)
-    ∷ first (kThen (ukad 0)) (refused FieldWrong 54)
+    ∷ first (kThen (ukad 33)) (refusedPage FieldWrong 54)
+    ∷ first (kThen (ukad 0)) (refusedPage FieldWrong 54)
     -- "Without ENCRYPT the list is empty", with a key and without
-    ∷ first (page (body 0x21 0x44 0 2 plain key (ukad 1))) (refused FieldWrong 52)
-    ∷ first (page (body 0x21 0x44 0 0 plain [] (ukad 1))) (refused FieldWrong 20)
+    ∷ first (page (body 0x21 0x44 0 2 plain key (ukad 1))) (refusedPage FieldWrong 52)
+    ∷ first (page (body 0x21 0x44 0 0 plain [] (ukad 1))) (refusedPage FieldWrong 20)
     -- SDK 1 from a PUBLIC nexus, with another scope, and with a reserved bit
-    ∷ first (supplemental 0x20 2 []) (refused FieldWrong 4)
-    ∷ next 0 (supplemental 0x40 2 []) (refused FieldWrong 4)
-    ∷ next 0 (supplemental 0x22 2 []) (refused FieldWrong 4)
+    ∷ first (supplemental 0x20 2 []) (refusedPage FieldWrong 4)
+    ∷ next 0 (supplemental 0x40 2 []) (refusedPage FieldWrong 4)
+    ∷ next 0 (supplemental 0x22 2 []) (refusedPage FieldWrong 4)
     -- with another mode than the set's, and with one that doesn't decrypt
-    ∷ next 0 (supplemental 0x20 3 []) (refused FieldWrong 7)
-    ∷ record { page = supplemental 0x20 1 []; scope = 1; mode = 1; count = 0; outcome = refused FieldWrong 7 }
+    ∷ next 0 (supplemental 0x20 3 []) (refusedPage FieldWrong 7)
+    ∷ record { page = supplemental 0x20 1 []; scope = 1; mode = 1; count = 0; outcome = refusedPage FieldWrong 7 }
     -- with a descriptor after the key, and with a byte
-    ∷ next 0 (supplemental 0x20 2 (ukad 1)) (refused FieldWrong 52)
-    ∷ next 0 (supplemental 0x20 2 (0 ∷ [])) (refused FieldWrong 52)
+    ∷ next 0 (supplemental 0x20 2 (ukad 1)) (refusedPage FieldWrong 52)
+    ∷ next 0 (supplemental 0x20 2 (0 ∷ [])) (refusedPage FieldWrong 52)
     -- "Then answer 9 if the set has 4 already", after every answer 8
-    ∷ next 4 (supplemental 0x20 2 []) (refused FifthSupplementalKey 0)
-    ∷ next 4 (supplemental 0x20 2 (0 ∷ [])) (refused FieldWrong 52)
+    ∷ next 4 (supplemental 0x20 2 []) (refusedPage FifthSupplementalKey 0)
+    ∷ next 4 (supplemental 0x20 2 (0 ∷ [])) (refusedPage FieldWrong 52)
     ∷ []
 
 -- what the definition gives

@@ -1,16 +1,18 @@
 -- Document 01, "The Set Data Encryption page (0010h)": the whole check.
 -- Besides the page it is given the nexus's scope, its set's decryption mode and its count of supplemental keys.
 use Prim.Native.Nat.{ℕ, _+_}
-use mathlib.Core.Bool.{true, false}
+use mathlib.Core.Bool.{Bool, true, false}
 use mathlib.Core.List.{List}
 use lib.Dec.{ltb, leb}
 use lib.ListN.{length}
-use Rattle.arrays.specs.Base.{pick}
+use Rattle.arrays.specs.Base.{if_then_else_}
 use Rattle.wire.specs.Rules.{lengthWrong, breach}
 use Rattle.answer.specs.Answers.{senseOf}
 use Rattle.answer.specs.declared.Answer.{Answer}
 use Rattle.answer.specs.declared.Answer.the-variants.{Done, PageLengthWrong, FieldWrong, FifthSupplementalKey}
-use Rattle.page.specs.Fields.{headSize, scopeOf, isPublic, lockOf, sdkOf, keyEnd, keyOf, listedOf, onlyKey, noFields, setFields}
+use Rattle.parameters.specs.Fields.{onlyKey, noFields, supplementalMost}
+use Rattle.parameters.specs.Codes.{publicScope}
+use Rattle.page.specs.Fields.{keyFrom, scopeOf, isPublic, lockOf, sdkOf, keyEnd, keyOf, listedOf, setFields}
 use Rattle.page.specs.Rules.{openRules, setRules, supplementalRules}
 use Rattle.page.specs.declared.Page.{Page}
 use Rattle.page.specs.declared.Checked.{Checked}
@@ -20,43 +22,39 @@ abbrev pub noPage : Page
 noPage = record { scope = 0; lock = false; supplemental = false; fields = noFields }
 
 -- answer 8 has the faulty byte's number; any other refusal 0
-abbrev pub refused : Answer → ℕ → Checked
-refused answer fault = record { answer = answer; sense = senseOf answer; fault = fault; page = noPage }
+abbrev pub refusedPage : Answer → ℕ → Checked
+refusedPage answer fault = record { answer = answer; sense = senseOf answer; fault = fault; page = noPage }
 
-abbrev pub accepted : Page → Checked
-accepted page = record { answer = Done; sense = senseOf Done; fault = 0; page = page }
-
--- the most supplemental keys of a set
-abbrev pub supplementalMost : ℕ
-supplementalMost = 4
+abbrev pub acceptedPage : Page → Checked
+acceptedPage page = record { answer = Done; sense = senseOf Done; fault = 0; page = page }
 
 -- "With PUBLIC, past the page code and length only SCOPE and LOCK are read"
-unfoldable pub publicPage : List ℕ → Checked
-publicPage p = accepted (record { scope = 0; lock = lockOf p; supplemental = false; fields = noFields })
+unfoldable pub publicPage : Bool → Checked
+publicPage lock = acceptedPage (record { scope = publicScope; lock = lock; supplemental = false; fields = noFields })
 
 -- LOCAL or ALL, SDK 1: "Then answer 9 if the set has 4 already"
 unfoldable pub supplementalPage : List ℕ → ℕ → ℕ → ℕ → Checked
 supplementalPage p scope mode count =
     let fault = breach (supplementalRules p scope mode) (length p) in
-    pick (ltb fault (length p)) (refused FieldWrong fault)
-    (pick (leb supplementalMost count) (refused FifthSupplementalKey 0)
-    (accepted (record { scope = scopeOf p; lock = false; supplemental = true; fields = onlyKey (keyOf p) })))
+    if ltb fault (length p) then refusedPage FieldWrong fault
+    else if leb supplementalMost count then refusedPage FifthSupplementalKey 0
+    else acceptedPage (record { scope = scopeOf p; lock = false; supplemental = true; fields = onlyKey (keyOf p) })
 
 -- LOCAL or ALL, SDK 0: the fixed part, then the descriptors, of which "the last ends with the page"
 unfoldable pub setPage : List ℕ → Checked
 setPage p =
     let fault = breach (setRules p) (length p) in
     let end = keyEnd p + listedOf p .good in
-    pick (ltb fault (length p)) (refused FieldWrong fault)
-    (pick (ltb end (length p)) (refused FieldWrong end)
-    (accepted (record { scope = scopeOf p; lock = lockOf p; supplemental = false; fields = setFields p })))
+    if ltb fault (length p) then refusedPage FieldWrong fault
+    else if ltb end (length p) then refusedPage FieldWrong end
+    else acceptedPage (record { scope = scopeOf p; lock = lockOf p; supplemental = false; fields = setFields p })
 
 -- "Answer 7: fewer than 20 bytes, or page length plus 4 isn't the byte count. Answer 8 in every other fault"
 unfoldable pub checked : List ℕ → ℕ → ℕ → ℕ → Checked
 checked p scope mode count =
     let fault = breach (openRules p) (length p) in
-    pick (lengthWrong headSize p) (refused PageLengthWrong 0)
-    (pick (ltb fault (length p)) (refused FieldWrong fault)
-    (pick (isPublic p) (publicPage p)
-    (pick (sdkOf p) (supplementalPage p scope mode count)
-    (setPage p))))
+    if lengthWrong keyFrom p then refusedPage PageLengthWrong 0
+    else if ltb fault (length p) then refusedPage FieldWrong fault
+    else if isPublic p then publicPage (lockOf p)
+    else if sdkOf p then supplementalPage p scope mode count
+    else setPage p

@@ -1,18 +1,20 @@
 -- Document 01, "The Set Data Encryption page (0010h)": its rules. p is the page, a list of bytes.
 -- A rule names the byte that a fault points to; the rules stand in the order of the bytes.
 use Prim.Native.Nat.{ℕ}
-use mathlib.Core.Bool.{not, _&&_, _||_}
+use mathlib.Core.Bool.{not, _&&_}
 use mathlib.Core.List.{List, [], _∷_, _++_}
 use lib.Dec.{leb, eqb}
 use lib.ListN.{length}
-use Rattle.arrays.specs.Base.{pick}
+use Rattle.arrays.specs.Base.{if_then_else_}
 use Rattle.wire.specs.Numbers.{byteAt}
 use Rattle.wire.specs.Rules.{Rule, rule, zeroRules}
-use Rattle.page.specs.Fields.{pageCode, scopeOf, reservedOf, rdmcOf, encryptionOf, decryptionOf, indexOf, reservedFrom, reservedBytes, keySize, keyedSize, keyLengthOf, keyEnd, encrypts, decrypts}
+use Rattle.parameters.specs.Codes.{allScope, encrypt, mixed, algorithm, encrypts, decrypts, needsKey}
+use Rattle.parameters.specs.Fields.{keySize}
+use Rattle.page.specs.Fields.{pageCode, scopeOf, reservedOf, rdmcOf, encryptionOf, decryptionOf, indexOf, reservedFrom, reservedBytes, keyedSize, keyLengthOf, keyEnd}
 
 -- "page code other than 0010h; SCOPE other than 0 PUBLIC, 1 LOCAL, 2 ALL"
 unfoldable pub openRules : List ℕ → List Rule
-openRules p = rule 0 (eqb (pageCode p) 0x10) ∷ rule 4 (leb (scopeOf p) 2) ∷ []
+openRules p = rule 0 (eqb (pageCode p) 0x10) ∷ rule 4 (leb (scopeOf p) allScope) ∷ []
 
 -- LOCAL or ALL, SDK 0, bytes 4 to 7: "bits 4–1 of byte 4 zero"; "RDMC 01b is wrong under ENCRYPT";
 -- "encryption mode 0 DISABLE, 1 EXTERNAL, 2 ENCRYPT; decryption mode 0 DISABLE, 1 RAW, 2 DECRYPT, 3 MIXED"
@@ -20,18 +22,18 @@ unfoldable pub modeRules : List ℕ → List Rule
 modeRules p =
     rule 4 (eqb (reservedOf p) 0)
     ∷ rule 5 (not (encrypts (encryptionOf p) && eqb (rdmcOf p) 1))
-    ∷ rule 6 (leb (encryptionOf p) 2)
-    ∷ rule 7 (leb (decryptionOf p) 3)
+    ∷ rule 6 (leb (encryptionOf p) encrypt)
+    ∷ rule 7 (leb (decryptionOf p) mixed)
     ∷ []
 
 -- bytes 8 to 17: "algorithm 1; both formats 0"; "bytes 11–17 zero"
 unfoldable pub plainRules : List ℕ → List Rule
 plainRules p =
-    rule 8 (eqb (indexOf p) 1) ∷ rule 9 (eqb (byteAt p 9) 0) ∷ rule 10 (eqb (byteAt p 10) 0) ∷ zeroRules reservedFrom (reservedBytes p)
+    rule 8 (eqb (indexOf p) algorithm) ∷ rule 9 (eqb (byteAt p 9) 0) ∷ rule 10 (eqb (byteAt p 10) 0) ∷ zeroRules reservedFrom (reservedBytes p)
 
 -- "Key length is 32 where encryption is 2 or decryption is 2 or 3, otherwise 0 (house)"
 abbrev pub keyLength : ℕ → ℕ → ℕ
-keyLength encryption decryption = pick (encrypts encryption || decrypts decryption) keySize 0
+keyLength encryption decryption = if needsKey encryption decryption then keySize else 0
 
 -- the key length; "With either SDK, a key that runs past the page's end is a fault"
 unfoldable pub keyRules : List ℕ → ℕ → List Rule

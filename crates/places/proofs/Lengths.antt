@@ -4,11 +4,11 @@ use Prim.Native.Nat.{ℕ}
 use mathlib.Core.Path.{_≡_, refl, _∙_}
 use mathlib.Core.List.{List, [], _∷_}
 use lib.ListN.{length, length-set, length-replicate}
-use Rattle.arrays.proofs.Base.{pick-elim}
+use Rattle.arrays.proofs.Base.{if-elim}
 use Rattle.arrays.proofs.Laws.{length-mapFrom}
 use Rattle.page.specs.declared.Page.{Page}
 use Rattle.device.specs.Record.{State, powerOn, emptySet, newNexus}
-use Rattle.places.specs.Actions.{Action, freed, act, acts, pageActions, settled, supplemented, taken}
+use Rattle.places.specs.Actions.{Action, freed, act, acts, pageActions, senderAfter, supplemented, taken}
 
 -- as many places and nexuses as before
 pub record SameSize (before after : State) : Type 0 where
@@ -44,10 +44,10 @@ unfolding acts
 acts-size s [] = size-stays s
 acts-size s (a ∷ more) = size-then (act-size s a) (acts-size (act s a) more)
 
--- after the sender is settled
-pub settled-size : (s : State) (n : ℕ) (page : Page) → SameSize s (settled s n page)
-unfolding settled
-settled-size s n page = record { places = refl; nexuses = length-set (s .nexuses) n _ }
+-- after the sender is left with its page
+pub sender-size : (s : State) (n : ℕ) (page : Page) → SameSize s (senderAfter s n page)
+unfolding senderAfter
+sender-size s n page = record { places = refl; nexuses = length-set (s .nexuses) n _ }
 
 -- after a supplemental key
 pub supplemented-size : (s : State) (n : ℕ) (page : Page) → SameSize s (supplemented s n page)
@@ -58,6 +58,6 @@ supplemented-size s n page = record { places = length-set (s .sets) _ _; nexuses
 pub taken-size : (s : State) (n : ℕ) (page : Page) → SameSize s (taken s n page)
 unfolding taken
 taken-size s n page =
-    pick-elim (SameSize s) (page .supplemental)
+    if-elim (SameSize s) (page .supplemental)
     (λ e. supplemented-size s n page)
-    (λ e. size-then (acts-size s (pageActions s n page)) (settled-size (acts s (pageActions s n page)) n page))
+    (λ e. size-then (acts-size s (pageActions s n page)) (sender-size (acts s (pageActions s n page)) n page))

@@ -1,5 +1,4 @@
 pub mod Lengths
 pub mod Releases
-pub mod Settled
-pub mod Settling
+pub mod Sender
 pub mod Worked

@@ -10,9 +10,9 @@ use borrow.Author.Tests.{not-true}
 use lib.Dec.{eqb}
 use lib.ListN.{length, drop}
 use lib.Seq.{drop-set-lt}
-use Rattle.arrays.specs.Base.{pick}
+use Rattle.arrays.specs.Base.{if_then_else_}
 use Rattle.arrays.specs.Arrays.{foldFrom, each, runs}
-use Rattle.arrays.proofs.Base.{cases, and-both, pick-elim, pick-same, pick-false}
+use Rattle.arrays.proofs.Base.{cases, and-both, if-elim, if-same, if-false}
 use Rattle.arrays.proofs.Laws.{getD-mapFrom-kept, first-of, rest-of}
 use Rattle.device.specs.Record.{State, noSet, newNexus, setAt, nexusAt}
 use Rattle.device.specs.Selecting.{selected}
@@ -29,7 +29,7 @@ acts-append s (x ∷ a) b = acts-append (act s x) a b
 pub act-nexus : (s : State) (a : Action) (n : ℕ) → nexusAt (act s a) n ≡ freed s (a .place) n (nexusAt s n)
 unfolding act
 act-nexus s a n =
-    getD-mapFrom-kept (freed s (a .place)) newNexus (λ i. pick-same (eqb (selected s i) (a .place)) newNexus) 0 (s .nexuses) n
+    getD-mapFrom-kept (freed s (a .place)) newNexus (λ i. if-same (eqb (selected s i) (a .place)) newNexus) 0 (s .nexuses) n
     ∙ ap (λ (i : ℕ). freed s (a .place) i (nexusAt s n)) (zero-add n)
 
 -- what holds of no action, and stays with one more release before the others, holds of the releases that a test picks
@@ -37,9 +37,9 @@ pub releases-elim : (P : List Action → Type 0) → P [] → ((place : ℕ) (re
 unfolding releases
 releases-elim P none more picked l = from l 0
   where
-    from : (l : List Set) (k : ℕ) → P (foldFrom (λ place set rest. pick (due picked place set) (release place ∷ rest) rest) [] k l)
+    from : (l : List Set) (k : ℕ) → P (foldFrom (λ place set rest. if due picked place set then release place ∷ rest else rest) [] k l)
     from [] k = none
-    from (x ∷ l) k = pick-elim P (due picked k x) (λ t. more k _ (from l (suc k))) (λ f. from l (suc k))
+    from (x ∷ l) k = if-elim P (due picked k x) (λ t. more k _ (from l (suc k))) (λ f. from l (suc k))
 
 -- an action on a place leaves the places after it
 act-later : (s : State) (a : Action) → drop (suc (a .place)) (act s a .sets) ≡ drop (suc (a .place)) (s .sets)
@@ -49,11 +49,11 @@ act-later s a = drop-set-lt (suc (a .place)) (s .sets) (a .place) _ (omega arith
 module _ (test : ℕ → Set → Bool) where
   -- the releases of the places that pass a test, from a place on
   abbrev from : ℕ → List Set → List Action
-  from = foldFrom (λ place set rest. pick (test place set) (release place ∷ rest) rest) []
+  from = foldFrom (λ place set rest. if test place set then release place ∷ rest else rest) []
 
   -- one place released if its set passes as it stands
   abbrev step : ℕ → State → State
-  step place s = pick (test place (setAt s place)) (act s (release place)) s
+  step place s = if test place (setAt s place) then act s (release place) else s
 
   -- a step leaves the places after it
   step-later : (k : ℕ) (s : State) → drop (suc k) (step k s .sets) ≡ drop (suc k) (s .sets)
@@ -85,11 +85,11 @@ releases-run picked s = steps-all (due picked) s
 
 -- where every place is spared nothing is released
 module _ (picked : ℕ → Set → Bool) where
-  spared-from : (sets : List Set) (k : ℕ) → foldFrom (λ place set rest. spared picked place set && rest) true k sets ≡ true → foldFrom (λ place set rest. pick (due picked place set) (release place ∷ rest) rest) [] k sets ≡ []
+  spared-from : (sets : List Set) (k : ℕ) → foldFrom (λ place set rest. spared picked place set && rest) true k sets ≡ true → foldFrom (λ place set rest. if due picked place set then release place ∷ rest else rest) [] k sets ≡ []
   spared-from [] k e = refl
   spared-from (set ∷ sets) k e =
       let h = and-both (spared picked k set) _ e in
-      pick-false (due picked k set) _ _ (not-true _ (h .0)) ∙ spared-from sets (suc k) (h .1)
+      if-false (due picked k set) _ _ (not-true _ (h .0)) ∙ spared-from sets (suc k) (h .1)
 
   pub spared-none : (sets : List Set) → each (spared picked) sets ≡ true → releases picked sets ≡ []
   unfolding releases

@@ -6,24 +6,24 @@ use mathlib.Core.List.{List, [], _∷_, _++_}
 use lib.Dec.{leb, eqb}
 use lib.ListN.{set}
 use lib.Seq.{sets}
-use Rattle.arrays.specs.Base.{pick}
+use Rattle.arrays.specs.Base.{if_then_else_}
 use Rattle.arrays.specs.Arrays.{mapFrom, foldFrom, find}
-use Rattle.page.specs.Fields.{keySize}
-use Rattle.page.specs.Check.{supplementalMost}
-use Rattle.page.specs.declared.Fields.{Fields}
+use Rattle.parameters.specs.Codes.{publicScope, localScope, allScope}
+use Rattle.parameters.specs.Fields.{keySize, supplementalMost}
+use Rattle.parameters.specs.declared.Fields.{Fields}
 use Rattle.page.specs.declared.Page.{Page}
-use Rattle.device.specs.Record.{State, setAt, nexusAt, empty, used, publicScope, localScope, allScope, established, emptySet}
+use Rattle.device.specs.Record.{State, setAt, nexusAt, empty, used, established, emptySet}
 use Rattle.device.specs.Selecting.{owns, ownedPlace, selected, selectedSet}
-use Rattle.device.specs.declared.Supplemental.{Supplemental}
+use Rattle.parameters.specs.declared.Supplemental.{Supplemental}
 use Rattle.device.specs.declared.Set.{Set}
 use Rattle.device.specs.declared.Nexus.{Nexus}
 use Rattle.device.specs.declared.Found.{Found}
 use Rattle.device.specs.declared.Found.the-variants.{At, Nowhere}
-use Rattle.device.specs.Updates.{withScope, numbered, withSupplemental, atPlace, atNexus}
+use Rattle.device.specs.Updates.{withScope, withLock, withSaved, withLastLocal, numbered, withSupplemental, withCounter, withSets, withNexuses, atPlace, atNexus}
 use Rattle.places.specs.declared.Event.{Event}
 use Rattle.places.specs.declared.Event.the-variants.{Demount, NexusLoss, DeviceLoss, Preempt, Microcode, VendorRelease}
 use Rattle.places.specs.declared.Room.{Room}
-use Rattle.places.specs.declared.Room.the-variants.{Free, Taken, NoRoom}
+use Rattle.places.specs.declared.Room.the-variants.{Free, Evicting, NoRoom}
 
 -- "the drive's one running counter, 32 bits, steps by one and wraps from 4,294,967,295 to 0"
 abbrev pub drawn : ℕ → ℕ
@@ -43,15 +43,15 @@ establish place owner scope fields = record { place = place; contents = establis
 -- "nexuses that were LOCAL there, or ALL for place 0, become PUBLIC; their lock and saved numbers stay":
 -- those whose set the place held (a PUBLIC nexus is PUBLIC already)
 abbrev pub freed : State → ℕ → ℕ → Nexus → Nexus
-freed s place n nexus = pick (eqb (selected s n) place) (withScope publicScope nexus) nexus
+freed s place n nexus = if eqb (selected s n) place then withScope publicScope nexus else nexus
 
 -- it draws once, and "the place changed takes the new value"
 unfoldable pub act : State → Action → State
-act s a = record {
-  counter = drawn (s .counter);
-  sets = set (s .sets) (a .place) (numbered (drawn (s .counter)) (a .contents));
-  nexuses = mapFrom (freed s (a .place)) 0 (s .nexuses);
-}
+act s a =
+    let number = drawn (s .counter) in
+    withCounter number
+    (withSets (set (s .sets) (a .place) (numbered number (a .contents)))
+    (withNexuses (mapFrom (freed s (a .place)) 0 (s .nexuses)) s))
 
 unfoldable pub acts : State → List Action → State
 acts s [] = s
@@ -66,11 +66,11 @@ spared picked place set = not (due picked place set)
 
 -- the releases of the places that are due, in rising order
 unfoldable pub releases : (ℕ → Set → Bool) → List Set → List Action
-releases picked = foldFrom (λ place set rest. pick (due picked place set) (release place ∷ rest) rest) [] 0
+releases picked = foldFrom (λ place set rest. if due picked place set then release place ∷ rest else rest) [] 0
 
 -- the nexus's own LOCAL place, if any
 unfoldable pub ownPlace : State → ℕ → Found
-ownPlace s n = pick (eqb (nexusAt s n .scope) localScope) (ownedPlace (s .sets) n) Nowhere
+ownPlace s n = if eqb (nexusAt s n .scope) localScope then ownedPlace (s .sets) n else Nowhere
 
 abbrev pub releaseFound : Found → List Action
 releaseFound (At place) = release place ∷ []
@@ -90,21 +90,21 @@ abbrev pub freeAt : Found → Room → Room
 freeAt (At place) other = Free place
 freeAt Nowhere other = other
 
-abbrev pub takenAt : Found → Room
-takenAt (At place) = Taken place
-takenAt Nowhere = NoRoom
+abbrev pub evictingAt : Found → Room
+evictingAt (At place) = Evicting place
+evictingAt Nowhere = NoRoom
 
 -- "its present place, else the lowest empty one, else the lowest whose owner has lock 0, which is first released; else answer 10"
 unfoldable pub room : State → ℕ → Room
 room s n =
     freeAt (ownPlace s n)
     (freeAt (find At Nowhere emptyLocal (s .sets))
-    (takenAt (find At Nowhere (unlockedLocal s) (s .sets))))
+    (evictingAt (find At Nowhere (unlockedLocal s) (s .sets))))
 
 -- there is none
 abbrev pub isNoRoom : Room → Bool
 isNoRoom (Free place) = false
-isNoRoom (Taken place) = false
+isNoRoom (Evicting place) = false
 isNoRoom NoRoom = true
 
 -- a page that needs a place for its LOCAL set
@@ -117,50 +117,48 @@ noPlace s n page = needsPlace page && isNoRoom (room s n)
 
 abbrev pub establishIn : Room → ℕ → Fields → List Action
 establishIn (Free place) n fields = establish place n localScope fields ∷ []
-establishIn (Taken place) n fields = release place ∷ establish place n localScope fields ∷ []
+establishIn (Evicting place) n fields = release place ∷ establish place n localScope fields ∷ []
 establishIn NoRoom n fields = []
 
 -- "PUBLIC: the nexus's own LOCAL place, if any, is released. ALL: its LOCAL place, if any, is released first; place 0 is established"
 abbrev pub sharedActions : State → ℕ → Page → List Action
 sharedActions s n page =
-    pick (eqb (page .scope) allScope) (releaseOwn s n ++ establish 0 n allScope (page .fields) ∷ [])
-    (releaseOwn s n)
+    if eqb (page .scope) allScope then releaseOwn s n ++ establish 0 n allScope (page .fields) ∷ []
+    else releaseOwn s n
 
 -- "An accepted page that is PUBLIC or has SDK 0"; a supplemental key is no action
 unfoldable pub pageActions : State → ℕ → Page → List Action
 pageActions s n page =
-    pick (page .supplemental) []
-    (pick (eqb (page .scope) localScope) (establishIn (room s n) n (page .fields))
-    (sharedActions s n page))
+    if page .supplemental then []
+    else if eqb (page .scope) localScope then establishIn (room s n) n (page .fields)
+    else sharedActions s n page
 
 -- "The nexus's scope is SCOPE, lock is LOCK; with LOCK 1 it saves its selected set's number afterwards, with LOCK 0 the saved number
 -- stays. LOCAL saves its last-LOCAL number."
-abbrev pub settledNexus : Page → ℕ → Nexus → Nexus
-settledNexus page number x = record {
-  scope = page .scope;
-  lock = page .lock;
-  saved = pick (page .lock) number (x .saved);
-  lastLocal = pick (eqb (page .scope) localScope) number (x .lastLocal);
-  marks = x .marks;
-}
+abbrev pub nexusAfter : Page → ℕ → Nexus → Nexus
+nexusAfter page number x =
+    withScope (page .scope)
+    (withLock (page .lock)
+    (withSaved (if page .lock then number else x .saved)
+    (withLastLocal (if eqb (page .scope) localScope then number else x .lastLocal) x)))
 
-unfoldable pub settled : State → ℕ → Page → State
-settled s n page =
+unfoldable pub senderAfter : State → ℕ → Page → State
+senderAfter s n page =
     let number = selectedSet (atNexus n (withScope (page .scope)) s) n .number in
-    atNexus n (settledNexus page number) s
+    atNexus n (nexusAfter page number) s
 
 -- "answer 9 if the set has 4 already, else the key is appended. Instance numbers and locks stay."
 abbrev pub appended : List ℕ → Supplemental → Supplemental
 appended key keys =
-    pick (leb supplementalMost (keys .count)) keys
-    (record { count = keys .count + 1; keys = sets (keys .keys) (keys .count * keySize) key })
+    if leb supplementalMost (keys .count) then keys
+    else record { count = keys .count + 1; keys = sets (keys .keys) (keys .count * keySize) key }
 
 unfoldable pub supplemented : State → ℕ → Page → State
 supplemented s n page = atPlace (selected s n) (λ set. withSupplemental (appended (page .fields .key) (set .supplemental)) set) s
 
 -- an accepted page taken: its actions, then what it leaves the sender or its set with
 unfoldable pub taken : State → ℕ → Page → State
-taken s n page = pick (page .supplemental) (supplemented s n page) (settled (acts s (pageActions s n page)) n page)
+taken s n page = if page .supplemental then supplemented s n page else senderAfter (acts s (pageActions s n page)) n page
 
 -- "Events, places in rising order: demount releases CKOD sets; nexus reservation loss, LOCAL CKORL sets of that nexus;
 -- device reservation loss, place 0 if CKORL; preempt by a nexus, CKORP sets; microcode, all; vendor release, the named place."
@@ -174,4 +172,4 @@ releasedBy (VendorRelease named) place set = eqb place named
 
 -- the same releases one place at a time, as a loop makes them
 abbrev pub releaseStep : (ℕ → Set → Bool) → ℕ → State → State
-releaseStep picked place s = pick (due picked place (setAt s place)) (act s (release place)) s
+releaseStep picked place s = if due picked place (setAt s place) then act s (release place) else s

@@ -6,7 +6,8 @@ use mathlib.Core.Bool.{_&&_}
 use lib.Dec.{eqb}
 use Rattle.arrays.proofs.Base.{cases}
 use Rattle.page.specs.declared.Page.{Page}
-use Rattle.device.specs.Record.{State, localScope}
+use Rattle.parameters.specs.Codes.{localScope}
+use Rattle.device.specs.Record.{State}
 use Rattle.places.specs.Actions.{needsPlace, isNoRoom, noPlace, pageActions, taken}
 use Rattle.places_16.specs.Taking.{roomAsked, takenIn}
 

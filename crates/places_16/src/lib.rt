@@ -3,8 +3,10 @@ use device::Found;
 use device::Nexus;
 use device::Set;
 use device_16::Device;
-use page::Fields;
 use page::Page;
+use parameters::ALL;
+use parameters::Fields;
+use parameters::LOCAL;
 use places::Event;
 use places::Room;
 use sizes_16::NEXUSES;
@@ -16,11 +18,7 @@ ghost use Rattle.sizes_16.specs.Sizes.{placeCount};
 ghost use Rattle.device_16.specs.Model.{state, device};
 ghost use Rattle.device.specs.declared.Found.{Found};
 ghost use Rattle.places_16.specs.Taking.{roomAsked, actionsIn, takenIn};
-ghost use Rattle.places.specs.Actions.{sharedActions, release, establish, freed, act, acts, spared, releases, ownPlace, releaseOwn, emptyLocal, unlockedLocal, room, establishIn, settled, supplemented, releasedBy, releaseStep};
-
-const LOCAL: u8 = 1;
-
-const ALL: u8 = 2;
+ghost use Rattle.places.specs.Actions.{sharedActions, release, establish, freed, act, acts, spared, releases, ownPlace, releaseOwn, emptyLocal, unlockedLocal, room, establishIn, senderAfter, supplemented, releasedBy, releaseStep};
 
 fn free_all(d: Device, place: usize) -> [Nexus; NEXUSES]
     ensures { λ r. ⌜ r ≡ mapFrom (freed (state d) place) 0 (d .nexuses) ⌝ }
@@ -29,7 +27,7 @@ fn free_all(d: Device, place: usize) -> [Nexus; NEXUSES]
     let mut out = d.nexuses;
     for n in 0..NEXUSES {
         let nexus = out[n];
-        out[n] = places::free(nexus, device_16::place_of(nexus, n, sets) == place);
+        out[n] = places_code::free(nexus, device_16::place_of(nexus, n, sets) == place);
     }
     out
 }
@@ -38,7 +36,7 @@ fn free_all(d: Device, place: usize) -> [Nexus; NEXUSES]
 fn act(d: Device, place: usize, contents: Set) -> Device
     ensures { λ r. ⌜ r ≡ device (act (state d) (record { place = place; contents = contents })) ⌝ }
 {
-    let number = places::draw(d.counter);
+    let number = places_code::draw(d.counter);
     let mut set = contents;
     set.number = number;
     let mut out = d;
@@ -90,7 +88,7 @@ fn lowest_empty(sets: [Set; PLACES]) -> Found
 {
     for place in 0..PLACES {
         let set = sets[place];
-        if places::is_empty_local(set, place) {
+        if places_code::is_empty_local(set, place) {
             return Found::At(place);
         }
     }
@@ -126,7 +124,10 @@ pub fn room_for(d: Device, n: u8) -> Room
     let sets = d.sets;
     match own_place(d, n) {
         Found::At(place) => Room::Free(place),
-        Found::Nowhere => places::free_at(lowest_empty(sets), places::taken_at(lowest_unlocked(d))),
+        Found::Nowhere => places_code::free_at(
+            lowest_empty(sets),
+            places_code::evicting_at(lowest_unlocked(d)),
+        ),
     }
 }
 
@@ -134,7 +135,7 @@ pub fn room_for(d: Device, n: u8) -> Room
 pub fn room_asked(d: Device, n: u8, page: Page) -> Room
     ensures { λ r. ⌜ r ≡ roomAsked (state d) n page ⌝ }
 {
-    if places::needs_place(page) {
+    if places_code::needs_place(page) {
         return room_for(d, n);
     }
     Room::NoRoom
@@ -146,7 +147,7 @@ fn establish_in(d: Device, n: u8, fields: Fields, room: Room) -> Device
 {
     match room {
         Room::Free(place) => establish(d, place, n, LOCAL, fields),
-        Room::Taken(place) => establish(release(d, place), place, n, LOCAL, fields),
+        Room::Evicting(place) => establish(release(d, place), place, n, LOCAL, fields),
         Room::NoRoom => d,
     }
 }
@@ -163,9 +164,9 @@ fn act_shared(d: Device, n: u8, page: Page) -> Device
     establish(released, 0, n, ALL, fields)
 }
 
-// The sender settled, in place.
-fn settle(d: Device, n: u8, page: Page) -> Device
-    ensures { λ r. ⌜ r ≡ device (settled (state d) n page) ⌝ }
+// The sender after its page, in place.
+fn sender_after(d: Device, n: u8, page: Page) -> Device
+    ensures { λ r. ⌜ r ≡ device (senderAfter (state d) n page) ⌝ }
 {
     let at = n as usize;
     if NEXUSES <= at {
@@ -178,7 +179,7 @@ fn settle(d: Device, n: u8, page: Page) -> Device
     scoped.scope = page.scope;
     let place = device_16::place_of(scoped, at, sets);
     let numbers = device_16::numbers(sets);
-    nexuses[at] = places::settle_nexus(nexus, page, numbers[place]);
+    nexuses[at] = places_code::nexus_after(nexus, page, numbers[place]);
     let mut out = d;
     out.nexuses = nexuses;
     out
@@ -191,7 +192,7 @@ fn supplement(d: Device, n: u8, page: Page) -> Device
     let key = page.fields.key;
     let mut set = d.sets[place];
     let keys = set.supplemental;
-    let more = places::append(keys, key);
+    let more = places_code::append(keys, key);
     set.supplemental = more;
     let mut out = d;
     out.sets[place] = set;
@@ -216,7 +217,7 @@ pub fn take_page(d: Device, n: u8, page: Page, room: Room) -> Device
     if page.supplemental {
         return supplement(d, n, page);
     }
-    settle(act_page(d, n, page, room), n, page)
+    sender_after(act_page(d, n, page, room), n, page)
 }
 
 // No place is due.
@@ -226,7 +227,7 @@ pub fn none_due(sets: [Set; PLACES], event: Event) -> bool
     let mut none = true;
     for place in 0..PLACES {
         let set = sets[place];
-        none = none & !places::is_due(event, place, set);
+        none = none & !places_code::is_due(event, place, set);
     }
     none
 }
@@ -236,7 +237,7 @@ fn release_step(d: Device, event: Event, place: usize) -> Device
     ensures { λ r. ⌜ r ≡ device (releaseStep (releasedBy event) place (state d)) ⌝ }
 {
     let set = d.sets[place];
-    if places::is_due(event, place, set) {
+    if places_code::is_due(event, place, set) {
         return release(d, place);
     }
     d

@@ -10,13 +10,27 @@ pub use Rattle.drive.proofs.Refusals.{refusals-change, refusals-keep}
 pub use Rattle.drive.proofs.Effects.{known-agrees}
 -- Key-associated data written and read back are the same; a list that is accepted, read and written again, has the same bytes.
 pub use Rattle.kad.proofs.RoundTrip.{read-of-written as kad-read-of-written, written-of-read as kad-written-of-read}
--- The faulty byte of a refused page is the lowest at which a rule breaks; of a page that is taken, none breaks.
-pub use Rattle.page.proofs.Lowest.{wrong-is-lowest, done-breaks-none}
+-- The faulty byte of a refused page is the lowest at which a rule breaks; of a page that is taken, or refused by answer 9,
+-- none breaks.
+pub use Rattle.page.proofs.Lowest.{wrong-is-lowest, done-breaks-none, fifth-breaks-none}
+-- The same of the status reader: the faulty byte of answer 8 is the lowest at which a rule of the page breaks, and of a page that is read
+-- none breaks.
+pub use Rattle.status.proofs.Lowest.{status-lowest}
 -- A status page written and read back shows the same values; one that our reader accepts, written again, has the same bytes; what is
 -- written for a well-formed record is accepted.
 pub use Rattle.status.proofs.RoundTrip.{read-of-written as status-read-of-written, written-of-read as status-written-of-read, well-formed-accepted, well-formed-read}
+-- A record written as bytes and read is the same; bytes that are taken for a record, written again, are the same bytes; and those are
+-- the bytes of the right length whose yes/no bytes are 0 or 1.
+pub use Rattle.record.proofs.RoundTrip.{read-of-written as record-read-of-written, written-of-taken as record-written-of-taken}
+pub use Rattle.record.proofs.Formed.{good-is-formed}
 -- P1 to P10 hold of the definitions, pages as bytes, and further rows for the errors that look right.
 pub use Rattle.drive.proofs.Table.{table, proved, further, further-proved}
+-- A row that finds two records the same finds them equal, field by field.
+pub use Rattle.drive.proofs.Same.{same-record}
+-- A reply's head tells its number, its sense and how many bytes of data follow.
+pub use Rattle.command.proofs.Replies.{head-number, head-sense, head-length}
+-- The stored session of the stream, further commands and records taken and given: what is replied is what is printed there.
+pub use Rattle.command.proofs.Worked.{session-proved, further-proved as stream-further-proved, records-proved}
 -- Every call of a well-formed record leaves a well-formed record; power-on gives one; so since power-on answer 1 is never due.
 pub use Rattle.kept.proofs.Calls.{call-kept}
 pub use Rattle.device.proofs.WellFormed.{power-on-well}

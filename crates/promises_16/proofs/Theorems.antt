@@ -10,7 +10,7 @@ use Rattle.device.specs.Record.{State, nexusAt, powerOn}
 use Rattle.device.specs.Selecting.{selected, selectedSet}
 use Rattle.device.specs.WellFormed.{wellFormed}
 use Rattle.drive.specs.Calls.{Call}
-use Rattle.drive.specs.Answers.{pageChecked}
+use Rattle.drive.specs.Checks.{pageChecked}
 use Rattle.drive.specs.Runs.{runFrom, run}
 use Rattle.kept.proofs.Runs.{since-power-on}
 use Rattle.history.specs.History.{isHeard, isStopped, LatestPage, leftBy, ranFrom, touched, drew}
@@ -20,6 +20,9 @@ use Rattle.device_16.specs.Model.{state, device}
 use Rattle.device_16.specs.declared.Device.{Device}
 use Rattle.drive_16.specs.Outcomes.{outcomeBy, outcome, poweredOn}
 use Rattle.promises_16.specs.Runs.{leaves, sincePowerOn}
+-- What this model writes as a record's bytes is loaded as the same record; bytes that are loaded, written again, are the same bytes; a
+-- load takes bytes exactly if their count is right and each yes/no byte is 0 or 1; a refused one carries nothing.
+pub use Rattle.record_16.proofs.RoundTrip.{loaded-of-record, written-of-loaded, loaded-is-formed, refused-load}
 
 -- it is the record over lists
 pub leaves-run : (d : Device) (calls : List Call) → state (leaves d calls) ≡ runFrom (state d) calls

@@ -1,5 +1,5 @@
-pub mod Writing
+pub mod Bytes
 pub mod Reading
+pub mod Lowest
 pub mod RoundTrip
 pub mod Worked
-pub mod Settled

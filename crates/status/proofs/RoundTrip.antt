@@ -1,22 +1,21 @@
 -- The status page, written and read, read and written; and that of a well-formed record.
 -- Assumes nothing.
 use mathlib.Core.Path.{_≡_, refl, sym, ap, subst, _∙_}
-use mathlib.Core.Bool.{true, false, _&&_}
+use mathlib.Core.Bool.{true, false}
 use mathlib.Core.List.{List, _∷_, _++_}
-use Prim.Native.Nat.{ℕ, _+_, _/_, _%_, _^_, _<_, _≤_}
+use Prim.Native.Nat.{ℕ, _+_, _^_, _<_, _≤_}
+use native.Mathlib.Nat.{le-refl}
 use native.Mathlib.Omega.{arith}
-use borrow.Author.Tests.{ltb-true, ltb-false, le-ltb, le-leb, eq-eqb}
-use lib.Dec.{lit≤, ltb, leb, eqb}
-use lib.ListN.{length, take, drop, replicate, length-drop, take-append-drop, List·getD-eq-default}
+use borrow.Author.Tests.{ltb-true, ltb-false, le-ltb, eq-eqb}
+use lib.Dec.{lit≤, ltb}
+use lib.ListN.{length, drop, replicate, length-drop, take-append-drop, List·getD-eq-default}
 use lib.Seq.{drop-drop, length-take-le}
-use Rattle.arrays.proofs.Base.{cases, both}
+use Rattle.arrays.proofs.Base.{cases}
 use Rattle.wire.specs.Numbers.{byteAt, wordAt, number, two}
-use Rattle.wire.specs.Fields.{joined4, statusByte12, joined12}
+use Rattle.wire.specs.Bits.{bits, bitAt}
 use Rattle.wire.specs.Rules.{lengthWrong}
-use Rattle.wire.specs.declared.StatusByte4.{StatusByte4}
-use Rattle.wire.specs.declared.StatusByte12.{StatusByte12}
 use Rattle.wire.proofs.Numbers.{word-two, two-word, number-below, number-four, four-number}
-use Rattle.wire.proofs.Fields.{split-joined-4, joined-split-4, split-joined-12, joined-split-12}
+use Rattle.wire.proofs.Rules.{none}
 use Rattle.wire.proofs.Zeros.{zeros-are}
 use Rattle.answer.specs.declared.Answer.the-variants.{Done}
 use Rattle.kad.specs.Kad.{tailsGood, Sized}
@@ -30,34 +29,51 @@ use Rattle.device.specs.Record.{State, nexusAt, noSet}
 use Rattle.device.specs.Selecting.{selected, selectedSet}
 use Rattle.device.specs.WellFormed.{wellFormed}
 use Rattle.device.proofs.WellFormed.{set-at, nexus-at}
-use Rattle.status.specs.Pages.{pageOf}
+use Rattle.status.specs.Pages.{statusCode, pageOf}
+use Rattle.status.specs.Bytes.{statusByte4, joined4, statusByte12, joined12}
 use Rattle.status.specs.Status.{statusFields, statusBytes, statusWith, statusOf, CodesInRange, InRange}
-use Rattle.status.specs.Reading.{readOf, headSize, scopesGood, headGood, valuesWith, values, readStatus}
+use Rattle.status.specs.Rules.{descriptorsFrom, zeroBytes, headRules}
+use Rattle.status.specs.Reading.{readOf, valuesWith, values, readStatus}
+use Rattle.status.specs.declared.StatusByte4.{StatusByte4}
+use Rattle.status.specs.declared.StatusByte12.{StatusByte12}
 use Rattle.status.specs.declared.Status.{Status}
 use Rattle.status.specs.declared.StatusRead.{StatusRead}
-use Rattle.status.proofs.Reading.{accepted, Accepted, known, Head, head-is}
+use Rattle.status.proofs.Bytes.{split-joined-4, joined-split-4, split-joined-12, joined-split-12}
+use Rattle.status.proofs.Reading.{all-good, Accepted, known, Head, head-is, head-holds}
 
 -- ---- written, then read
 
 -- a page has as many bytes as it says
-page-length : (code : ℕ) (body : List ℕ) → 20 ≤ length body → length body < 65536 → lengthWrong headSize (pageOf code body) ≡ false
+page-length : (code : ℕ) (body : List ℕ) → 20 ≤ length body → length body < 65536 → lengthWrong descriptorsFrom (pageOf code body) ≡ false
 page-length code body l h =
     let p = pageOf code body in
-    rw (le-ltb (length p) headSize (omega arith), eq-eqb (wordAt p 2 + 4) (length p) (omega (arith, word-two (length body) h))) refl
-
--- byte 4 of scopes in range is good
-joined-good : (a b : ℕ) → a ≤ 2 → b ≤ 2 → scopesGood (joined4 a b) ≡ true
-joined-good a b h l =
-    ap (λ (x : StatusByte4). leb (x .nexusScope) 2 && eqb (x .zeros) 0 && leb (x .setScope) 2) (split-joined-4 a b (omega arith) (omega arith))
-    ∙ simp (le-leb a 2 h, le-leb b 2 l)
+    rw (le-ltb (length p) descriptorsFrom (omega arith), eq-eqb (wordAt p 2 + 4) (length p) (omega (arith, word-two (length body) h))) refl
 
 module _ (s : Status) (c : CodesInRange s) where
-  -- the first 24 bytes of what is written are good
-  written-head : headGood (statusBytes s) ≡ true
-  unfolding headGood statusBytes
+  -- bytes 4 and 12 of what is written, taken apart
+  scopes : statusByte4 (joined4 (s .nexusScope) (s .setScope)) ≡ record { nexusScope = s .nexusScope; zeros = 0; setScope = s .setScope }
+  scopes = split-joined-4 (s .nexusScope) (s .setScope) (omega (arith, c .nexusScope)) (omega (arith, c .setScope))
+
+  marks : statusByte12 (joined12 (s .ceems) (s .rdmd)) ≡ record { zeros = 0; ceems = s .ceems; rdmd = s .rdmd }
+  marks = split-joined-12 (s .ceems) (s .rdmd) (c .ceems)
+
+  -- the first 24 bytes of what is written
+  written-head : Head (statusBytes s)
+  unfolding statusBytes
   written-head =
-      let control : statusByte12 (joined12 (s .ceems) (s .rdmd)) .zeros ≡ 0 = ap (λ (x : StatusByte12). x .zeros) (split-joined-12 (s .ceems) (s .rdmd) (c .ceems)) in
-      simp (joined-good (s .nexusScope) (s .setScope) (c .nexusScope) (c .setScope), le-leb (s .encryption) 2 (c .encryption), le-leb (s .decryption) 3 (c .decryption), le-leb (s .index) 1 (c .index), control)
+      let nexusScope : bits 7 5 (joined4 (s .nexusScope) (s .setScope)) ≡ s .nexusScope = ap (λ (x : StatusByte4). x .nexusScope) scopes in
+      let setScope : bits 2 0 (joined4 (s .nexusScope) (s .setScope)) ≡ s .setScope = ap (λ (x : StatusByte4). x .setScope) scopes in
+      record {
+        code = refl;
+        nexusScope = rw nexusScope (c .nexusScope);
+        between = ap (λ (x : StatusByte4). x .zeros) scopes;
+        setScope = rw setScope (c .setScope);
+        encryption = c .encryption;
+        decryption = c .decryption;
+        index = c .index;
+        control = ap (λ (x : StatusByte12). x .zeros) marks;
+        zeros = refl;
+      }
 
   -- Values whose codes are in range, written as a page, are accepted by the reader.
   pub written-accepted : readStatus (statusBytes s) ≡ readOf (values (statusBytes s))
@@ -65,19 +81,18 @@ module _ (s : Status) (c : CodesInRange s) where
   written-accepted =
       let list = kad.written-is-good (s .kads) (c .lengths) in
       let few = kad.descriptors-le (s .kads) (c .lengths) in
-      accepted (statusBytes s) (page-length 0x20 (statusFields s ++ descriptors (s .kads)) (omega arith) (omega arith))
-      (both _ _ written-head (eq-eqb _ _ list))
+      let p = statusBytes s in
+      all-good p (page-length statusCode (statusFields s ++ descriptors (s .kads)) (omega arith) (omega arith)) descriptorsFrom _
+      (sym (none (headRules p) descriptorsFrom (head-holds p written-head))) (le-refl descriptorsFrom) refl (omega (arith, list))
 
   -- and what it reads is these, where the number has 32 bits
   written-values : s .number < 2 ^ 32 → valuesWith (statusBytes s) (s .kads) ≡ s
   unfolding statusBytes
   written-values n =
-      let scopes = split-joined-4 (s .nexusScope) (s .setScope) (omega (arith, c .nexusScope)) (omega (arith, c .setScope)) in
-      let nexusScope : joined4 (s .nexusScope) (s .setScope) / 2 ^ 5 ≡ s .nexusScope = ap (λ (x : StatusByte4). x .nexusScope) scopes in
-      let setScope : joined4 (s .nexusScope) (s .setScope) % 2 ^ 3 ≡ s .setScope = ap (λ (x : StatusByte4). x .setScope) scopes in
-      let marks = split-joined-12 (s .ceems) (s .rdmd) (c .ceems) in
-      let ceems : joined12 (s .ceems) (s .rdmd) / 2 ^ 1 % 2 ^ 2 ≡ s .ceems = ap (λ (x : StatusByte12). x .ceems) marks in
-      let rdmd : eqb (joined12 (s .ceems) (s .rdmd) % 2) 1 ≡ s .rdmd = ap (λ (x : StatusByte12). x .rdmd) marks in
+      let nexusScope : bits 7 5 (joined4 (s .nexusScope) (s .setScope)) ≡ s .nexusScope = ap (λ (x : StatusByte4). x .nexusScope) scopes in
+      let setScope : bits 2 0 (joined4 (s .nexusScope) (s .setScope)) ≡ s .setScope = ap (λ (x : StatusByte4). x .setScope) scopes in
+      let ceems : bits 2 1 (joined12 (s .ceems) (s .rdmd)) ≡ s .ceems = ap (λ (x : StatusByte12). x .ceems) marks in
+      let rdmd : bitAt 0 (joined12 (s .ceems) (s .rdmd)) ≡ s .rdmd = ap (λ (x : StatusByte12). x .rdmd) marks in
       rw (nexusScope, setScope, number-four (s .number) n, ceems, rdmd) refl
 
 -- Values in range, written as a page, are read back the same.
@@ -91,16 +106,16 @@ read-of-written s r =
 -- ---- read, then written
 
 -- bytes 13 to 23 of a page are zeros
-middle : (p : List ℕ) → headSize ≤ length p → Head p → drop 13 p ≡ replicate 11 0 ++ drop headSize p
+middle : (p : List ℕ) → descriptorsFrom ≤ length p → Head p → drop 13 p ≡ replicate 11 0 ++ drop descriptorsFrom p
 middle p l h =
-    let zeros = take 11 (drop 13 p) in
+    let zeros = zeroBytes p in
     let count : length zeros ≡ 11 = length-take-le 11 (drop 13 p) (omega (arith, length-drop 13 p)) in
     let blank : zeros ≡ replicate 11 0 = zeros-are zeros (h .zeros) ∙ ap (λ (n : ℕ). replicate n 0) count in
     sym (take-append-drop 11 (drop 13 p)) ∙ rw (blank, drop-drop 11 13 p) refl
 
 -- its first 24 bytes, written out
-spread : (p : List ℕ) → headSize ≤ length p → Head p
-    → p ≡ 0x00 ∷ 0x20 ∷ byteAt p 2 ∷ byteAt p 3 ∷ byteAt p 4 ∷ byteAt p 5 ∷ byteAt p 6 ∷ byteAt p 7 ∷ byteAt p 8 ∷ byteAt p 9 ∷ byteAt p 10 ∷ byteAt p 11 ∷ byteAt p 12 ∷ (replicate 11 0 ++ drop headSize p)
+spread : (p : List ℕ) → descriptorsFrom ≤ length p → Head p
+    → p ≡ 0x00 ∷ 0x20 ∷ byteAt p 2 ∷ byteAt p 3 ∷ byteAt p 4 ∷ byteAt p 5 ∷ byteAt p 6 ∷ byteAt p 7 ∷ byteAt p 8 ∷ byteAt p 9 ∷ byteAt p 10 ∷ byteAt p 11 ∷ byteAt p 12 ∷ (replicate 11 0 ++ drop descriptorsFrom p)
 spread p l h =
     let code = h .code in
     let high : byteAt p 0 ≡ 0 = omega arith in
@@ -113,30 +128,30 @@ at i e = ap (λ (l : List ℕ). byteAt l i) e
 
 module _ (p : List ℕ) (bytes : (i : ℕ) → byteAt p i < 256) where
   -- a page that the reader accepts is written again, where the descriptors are
-  again : Accepted p → (k : Kads) → descriptors k ≡ drop headSize p → statusBytes (valuesWith p k) ≡ p
+  again : Accepted p → (k : Kads) → descriptors k ≡ drop descriptorsFrom p → statusBytes (valuesWith p k) ≡ p
   unfolding statusBytes
   again a k d =
       let h = head-is p (a .head) in
       let count : ℕ = length (statusFields (valuesWith p k) ++ descriptors k) in
-      let says : count ≡ wordAt p 2 = omega (arith, ap length d, length-drop headSize p, a .long, a .exact) in
+      let says : count ≡ wordAt p 2 = omega (arith, ap length d, length-drop descriptorsFrom p, a .long, a .exact) in
       let size = ap two says ∙ two-word (byteAt p 2) (byteAt p 3) (bytes 2) (bytes 3) in
       let instance = four-number (byteAt p 8) (byteAt p 9) (byteAt p 10) (byteAt p 11) (bytes 8) (bytes 9) (bytes 10) (bytes 11) in
       let scopes = joined-split-4 (byteAt p 4) (bytes 4) (h .between) in
-      let marks = joined-split-12 (byteAt p 12) (h .control) in
+      let marks = joined-split-12 (byteAt p 12) (bytes 12) (h .control) in
       rw (at 0 size, at 1 size, at 0 instance, at 1 instance, at 2 instance, at 3 instance, scopes, marks, d) (sym (spread p (a .long) h))
 
   -- A page that the reader accepts is written again with the same bytes.
   pub written-of-read : readStatus p .answer ≡ Done → statusBytes (readStatus p .status) ≡ p
   written-of-read e =
       let a = known p e in
-      ap (λ (r : StatusRead). statusBytes (r .status)) (a .is) ∙ again a (readKads (drop headSize p) .kads) (kad.written-of-read (drop headSize p) (a .list))
+      ap (λ (r : StatusRead). statusBytes (r .status)) (a .is) ∙ again a (readKads (drop descriptorsFrom p) .kads) (kad.written-of-read (drop descriptorsFrom p) (a .list))
 
   -- What is read of it is in range.
   pub read-in-range : readStatus p .answer ≡ Done → InRange (readStatus p .status)
   read-in-range e =
       let a = known p e in
       let h = head-is p (a .head) in
-      let rest = drop headSize p in
+      let rest = drop descriptorsFrom p in
       subst (λ (r : StatusRead). InRange (r .status)) (sym (a .is))
       (record {
         codes = record {

@@ -4,37 +4,70 @@ use mathlib.Core.Path.{_≡_, refl}
 use mathlib.Core.Bool.{true, false}
 use mathlib.Core.List.{List, [], _∷_, _++_, map}
 use lib.ListN.{getD, take, set, replicate}
-use Rattle.wire.specs.Numbers.{two}
 use Rattle.answer.specs.declared.Answer.{Answer}
 use Rattle.answer.specs.declared.Answer.the-variants.{Done, PageLengthWrong, FieldWrong}
 use Rattle.kad.specs.Kad.{kadsOf, noKads}
 use Rattle.kad.specs.Reading.{descriptorRules, listed}
+use Rattle.kad.specs.Rules.{listRules}
 use Rattle.kad.specs.Writing.{descriptors}
 use Rattle.kad.specs.declared.Kads.{Kads}
-use Rattle.page.specs.Fields.{keySize}
-use Rattle.page.specs.declared.Fields.{Fields}
-use Rattle.device.specs.Record.{State, localScope, established, emptySet, noMarks, newNexus, powerOn}
+use Rattle.parameters.specs.Fields.{keySize}
+use Rattle.parameters.specs.declared.Fields.{Fields}
+use Rattle.parameters.specs.Codes.{localScope}
+use Rattle.device.specs.Record.{State, established, emptySet, noMarks, newNexus, powerOn}
 use Rattle.device.specs.Selecting.{ownedPlace, selected}
 use Rattle.device.specs.declared.Nexus.{Nexus}
-use Rattle.status.specs.Pages.{pageOf, supportedIn, supportedOut, capabilities}
+use Rattle.status.specs.Pages.{isInPage, isOutPage, supportedIn, supportedOut, capabilities}
+use Rattle.status.specs.Bytes.{statusByte4, joined4, statusByte12, joined12}
 use Rattle.status.specs.Status.{statusBytes, statusOf}
-use Rattle.status.specs.Reading.{readOf, headGood, refused, noStatus, readStatus}
+use Rattle.status.specs.Rules.{scopeRules, fieldRules, headRules}
+use Rattle.status.specs.Reading.{readOf, refusedStatus, noStatus, readStatus}
 use Rattle.status.specs.declared.Status.{Status}
 
 -- ---- the pages that never change
 
--- the response pages that there are, by their codes
-supported-in : supportedIn ≡ pageOf 0x0000 (two 0x0000 ++ two 0x0001 ++ two 0x0012 ++ two 0x0020)
+-- "0000h: 00 00 00 08 00 00 00 01 00 12 00 20"
+pub supported-in : supportedIn ≡ 0x00 ∷ 0x00 ∷ 0x00 ∷ 0x08 ∷ 0x00 ∷ 0x00 ∷ 0x00 ∷ 0x01 ∷ 0x00 ∷ 0x12 ∷ 0x00 ∷ 0x20 ∷ []
 supported-in = refl
 
--- the one page that is set
-supported-out : supportedOut ≡ pageOf 0x0001 (two 0x0010)
+-- "0001h: 00 01 00 02 00 10"
+pub supported-out : supportedOut ≡ 0x00 ∷ 0x01 ∷ 0x00 ∷ 0x02 ∷ 0x00 ∷ 0x10 ∷ []
 supported-out = refl
 
--- "00 12 00 0C 01 07 00 07, then 8 zeros"
-capabilities-bytes : capabilities
+-- "0012h: 00 12 00 0C 01 07 00 07, then 8 zeros"
+pub capabilities-bytes : capabilities
     ≡ 0x00 ∷ 0x12 ∷ 0x00 ∷ 0x0C ∷ 0x01 ∷ 0x07 ∷ 0x00 ∷ 0x07 ∷ 0x00 ∷ 0x00 ∷ 0x00 ∷ 0x00 ∷ 0x00 ∷ 0x00 ∷ 0x00 ∷ 0x00 ∷ []
 capabilities-bytes = refl
+
+-- pages 0000h to 0021h that SECURITY PROTOCOL IN has, and OUT
+abbrev codes : List ℕ
+codes = 0x00 ∷ 0x01 ∷ 0x02 ∷ 0x10 ∷ 0x11 ∷ 0x12 ∷ 0x20 ∷ 0x21 ∷ []
+
+in-pages : map isInPage codes ≡ true ∷ true ∷ false ∷ false ∷ false ∷ true ∷ true ∷ false ∷ []
+in-pages = refl
+
+out-pages : map isOutPage codes ≡ false ∷ false ∷ false ∷ true ∷ false ∷ false ∷ false ∷ false ∷ []
+out-pages = refl
+
+-- ---- bytes 4 and 12
+
+-- every bit set
+full-4 : statusByte4 0xFF ≡ record { nexusScope = 7; zeros = 3; setScope = 7 }
+full-4 = refl
+
+full-12 : statusByte12 0xFF ≡ record { zeros = 31; ceems = 3; rdmd = true }
+full-12 = refl
+
+-- P2's: "21 .. 02"
+p2-byte-4 : joined4 1 1 ≡ 0x21
+p2-byte-4 = refl
+
+p2-byte-12 : joined12 1 false ≡ 0x02
+p2-byte-12 = refl
+
+-- a PUBLIC nexus that a set with scope ALL serves
+public-of-all : joined4 0 2 ≡ 0x02
+public-of-all = refl
 
 -- ---- P1
 
@@ -54,7 +87,7 @@ unfolding statusBytes descriptors powerOn selected
 p1-written n = rw (new 16 n) refl
 
 pub p1-read : readStatus p1 ≡ readOf noStatus
-unfolding readStatus headGood listed
+unfolding readStatus headRules scopeRules fieldRules listRules listed
 p1-read = refl
 
 -- ---- P2
@@ -107,7 +140,7 @@ unfolding statusBytes descriptors selected ownedPlace
 p2-written = refl
 
 pub p2-read : readStatus p2 ≡ readOf (status 1 noKads)
-unfolding readStatus headGood listed
+unfolding readStatus headRules scopeRules fieldRules listRules listed
 p2-read = refl
 
 -- the other nexuses' status is that after power-on
@@ -131,7 +164,7 @@ unfolding statusBytes descriptors selected ownedPlace
 full-written = refl
 
 pub full-read : readStatus full ≡ readOf (status 0x01020304 kads)
-unfolding readStatus headGood listed descriptorRules
+unfolding readStatus headRules scopeRules fieldRules listRules descriptorRules listed
 full-read = refl
 
 -- ---- what the reader takes, and what it refuses
@@ -148,30 +181,35 @@ abbrev taken : List (List ℕ)
 taken = other 7 0 ∷ other 5 0 ∷ other 6 0 ∷ other 6 3 ∷ other 4 0x42 ∷ other 4 0x00 ∷ other 12 0x07 ∷ []
 
 pub takes : map answerTo taken ≡ replicate 7 Done
-unfolding readStatus headGood listed
+unfolding readStatus headRules scopeRules fieldRules listRules listed
 takes = refl
 
--- a control bit, VCELB; index 2; bytes 13 and 23; bits 4–3 of byte 4; another page code; codes out of range
-abbrev wrong : List (List ℕ)
+-- the pages that are answered 8, each with its faulty byte
+abbrev wrong : List (List ℕ × ℕ)
 wrong =
-    other 12 0x10 ∷ other 12 0x20 ∷ other 12 0x40 ∷ other 12 0x80 ∷ other 12 0x08
-    ∷ other 7 2
-    ∷ other 13 1 ∷ other 23 1
-    ∷ other 4 0x29 ∷ other 4 0x31
-    ∷ other 0 1 ∷ other 1 0x10
-    ∷ other 4 0x61 ∷ other 4 0x23 ∷ other 5 3 ∷ other 6 4
-    -- a descriptor of type 2, and one that is cut short
-    ∷ set full 24 2 ∷ set full 33 2
+    -- another page code; a scope out of range; bits 4–3 of byte 4
+    (other 0 1, 0) ∷ (other 1 0x10, 0)
+    ∷ (other 4 0x61, 4) ∷ (other 4 0x23, 4) ∷ (other 4 0x29, 4) ∷ (other 4 0x31, 4)
+    -- modes, index 2
+    ∷ (other 5 3, 5) ∷ (other 6 4, 6) ∷ (other 7 2, 7)
+    -- VCELB, a control bit, bit 7
+    ∷ (other 12 0x08, 12) ∷ (other 12 0x10, 12) ∷ (other 12 0x20, 12) ∷ (other 12 0x40, 12) ∷ (other 12 0x80, 12)
+    -- bytes 13 to 23
+    ∷ (other 13 1, 13) ∷ (other 18 1, 18) ∷ (other 23 1, 23)
+    -- two faults: the lower byte
+    ∷ (set (other 5 3) 23 1, 5) ∷ (set (other 12 0x08) 6 4, 6)
+    -- a descriptor of type 2; a second byte that isn't zero; no data; the second descriptor cut short
+    ∷ (set full 24 2, 24) ∷ (set full 25 1, 25) ∷ (set full 27 0, 26) ∷ (set full 33 2, 30)
     ∷ []
 
-pub refuses : map readStatus wrong ≡ replicate 18 (refused FieldWrong)
-unfolding readStatus headGood listed descriptorRules
+pub refuses : map (λ (x : List ℕ × ℕ). readStatus (x .0)) wrong ≡ map (λ (x : List ℕ × ℕ). refusedStatus FieldWrong (x .1)) wrong
+unfolding readStatus headRules scopeRules fieldRules listRules descriptorRules listed
 refuses = refl
 
 -- 23 bytes, with the length that they have and with another; 25 bytes; a length that is counted from byte 0; none
 abbrev misfit : List (List ℕ)
 misfit = set (take 23 p2) 3 0x13 ∷ take 23 p2 ∷ (p2 ++ 0 ∷ []) ∷ other 3 0x18 ∷ [] ∷ []
 
-pub misfits : map readStatus misfit ≡ replicate 5 (refused PageLengthWrong)
+pub misfits : map readStatus misfit ≡ replicate 5 (refusedStatus PageLengthWrong 0)
 unfolding readStatus
 misfits = refl

@@ -5,13 +5,13 @@ use mathlib.Core.Bool.{true}
 use mathlib.Core.List.{List, _∷_, _++_}
 use lib.ListN.{replicate}
 use Rattle.wire.specs.Numbers.{four}
-use Rattle.wire.specs.Fields.{joined4, joined12}
 use Rattle.kad.specs.Kad.{lengthsGood, tailsGood, Sized}
 use Rattle.kad.specs.Writing.{descriptors}
 use Rattle.device.specs.Record.{State, nexusAt}
 use Rattle.device.specs.Selecting.{selectedSet}
 use Rattle.device.specs.declared.Set.{Set}
-use Rattle.status.specs.Pages.{pageOf}
+use Rattle.status.specs.Pages.{statusCode, pageOf}
+use Rattle.status.specs.Bytes.{joined4, joined12}
 use Rattle.status.specs.declared.Status.{Status}
 
 -- "byte 4 nexus scope bits 7–5, set scope bits 2–0; 5, 6 modes; 7 index; 8–11 instance number;
@@ -23,7 +23,7 @@ statusFields s =
 
 -- "then KAD descriptors as in the Set page"
 unfoldable pub statusBytes : Status → List ℕ
-statusBytes s = pageOf 0x20 (statusFields s ++ descriptors (s .kads))
+statusBytes s = pageOf statusCode (statusFields s ++ descriptors (s .kads))
 
 -- the values told of a nexus with a scope, of the set that it uses
 abbrev pub statusWith : ℕ → Set → Status

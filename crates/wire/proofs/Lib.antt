@@ -1,7 +1,7 @@
 pub mod Numbers
-pub mod Fields
+pub mod Bits
 pub mod Zeros
 pub mod Stores
 pub mod Rules
+pub mod Lowest
 pub mod Worked
-pub mod Settled

@@ -7,10 +7,6 @@ use native.Mathlib.Omega.{arith}
 use lib.Pow.{shr-shr}
 use Rattle.wire.specs.Numbers.{word, number, two, four}
 
--- two bytes make less than 65,536
-pub word-below : (a b : ℕ) → a < 256 → b < 256 → word a b < 65536
-word-below a b h l = omega arith
-
 -- four bytes make less than 4,294,967,296
 pub number-below : (a b c d : ℕ) → a < 256 → b < 256 → c < 256 → d < 256 → number a b c d < 4294967296
 number-below a b c d h i j k = omega arith

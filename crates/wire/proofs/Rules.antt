@@ -12,7 +12,7 @@ use borrow.Author.Tests.{eq-eqb, ne-eqb}
 use lib.Dec.{eqb}
 use lib.ListN.{length, drop, getD}
 use lib.Seq.{drop-cons}
-use Rattle.arrays.proofs.Base.{cases, clash, both, pick-elim, pick-map}
+use Rattle.arrays.proofs.Base.{cases, clash, both, if-elim, if-map}
 use Rattle.arrays.proofs.Laws.{all-cons}
 use Rattle.wire.specs.Buffers.{allZero}
 use Rattle.wire.specs.Rules.{Rule, breach, BreaksAt, zeroRules}
@@ -39,7 +39,7 @@ Guarded n (r ∷ rs) = (r .at < n) × (r .holds ≡ true → Guarded n rs)
 pub kept : (rs : List Rule) (top m : ℕ) → Under m rs → m ≤ breach rs top → AllHold rs
 kept [] top m u l = tt
 kept (r ∷ rs) top m u l =
-    pick-elim (λ (x : ℕ). m ≤ x → (r .holds ≡ true) × AllHold rs) (r .holds) (λ e k. (e, kept rs top m (u .1) k)) (λ e k. absurd (not-le-of-lt (u .0) k)) l
+    if-elim (λ (x : ℕ). m ≤ x → (r .holds ≡ true) × AllHold rs) (r .holds) (λ e k. (e, kept rs top m (u .1) k)) (λ e k. absurd (not-le-of-lt (u .0) k)) l
 
 -- where all hold, none breaks
 pub none : (rs : List Rule) (top : ℕ) → AllHold rs → breach rs top ≡ top
@@ -49,7 +49,7 @@ none (r ∷ rs) top h = rw (h .0) (none rs top (h .1))
 -- the first breach lies below n
 pub guarded : (rs : List Rule) (top n : ℕ) → Guarded n rs → (breach rs top < n) ⊎ (breach rs top ≡ top)
 guarded [] top n g = inr refl
-guarded (r ∷ rs) top n g = pick-elim (λ (x : ℕ). (x < n) ⊎ (x ≡ top)) (r .holds) (λ e. guarded rs top n (g .1 e)) (λ e. inl (g .0))
+guarded (r ∷ rs) top n g = if-elim (λ (x : ℕ). (x < n) ⊎ (x ≡ top)) (r .holds) (λ e. guarded rs top n (g .1 e)) (λ e. inl (g .0))
 
 -- a breach of the first rules is that of all
 pub low : (xs ys : List Rule) (top m q : ℕ) → q ≡ breach xs m → q < m → breach (xs ++ ys) top ≡ q
@@ -69,7 +69,7 @@ high xs ys top m q u e l = all-first xs ys top (kept xs m m u (rw (← e) l))
 pub rest : (xs ys : List Rule) (top m : ℕ) → Under m xs → m ≤ breach (xs ++ ys) top → m ≤ breach ys top
 rest [] ys top m u l = l
 rest (r ∷ xs) ys top m u l =
-    pick-elim (λ (x : ℕ). m ≤ x → m ≤ breach ys top) (r .holds) (λ e k. rest xs ys top m (u .1) k) (λ e k. absurd (not-le-of-lt (u .0) k)) l
+    if-elim (λ (x : ℕ). m ≤ x → m ≤ breach ys top) (r .holds) (λ e k. rest xs ys top m (u .1) k) (λ e k. absurd (not-le-of-lt (u .0) k)) l
 
 -- so they point below any more
 pub under-more : (xs : List Rule) (m n : ℕ) → m ≤ n → Under m xs → Under n xs
@@ -148,14 +148,14 @@ above (r ∷ rs) m i s b = ⊎-elim (λ h. subst (λ (k : ℕ). m ≤ k) (h .0) 
 pub lowest : (rs : List Rule) (top m i : ℕ) → Sorted m rs → BreaksAt i rs → breach rs top ≤ i
 lowest [] top m i s b = absurd b
 lowest (r ∷ rs) top m i s b =
-    pick-elim (λ (x : ℕ). x ≤ i) (r .holds) (λ e. ⊎-elim (λ h. clash e (h .1)) (λ h. lowest rs top (r .at) i (s .1) h) b)
+    if-elim (λ (x : ℕ). x ≤ i) (r .holds) (λ e. ⊎-elim (λ h. clash e (h .1)) (λ h. lowest rs top (r .at) i (s .1) h) b)
     (λ e. above (r ∷ rs) (r .at) i (le-refl (r .at), s .1) b)
 
 -- and a rule breaks there, or none does
 pub breaks : (rs : List Rule) (top : ℕ) → (breach rs top ≡ top) ⊎ BreaksAt (breach rs top) rs
 breaks [] top = inl refl
 breaks (r ∷ rs) top =
-    pick-elim (λ (x : ℕ). (x ≡ top) ⊎ (((r .at ≡ x) × (r .holds ≡ false)) ⊎ BreaksAt x rs)) (r .holds) (λ e. ⊎-elim inl (λ h. inr (inr h)) (breaks rs top))
+    if-elim (λ (x : ℕ). (x ≡ top) ⊎ (((r .at ≡ x) × (r .holds ≡ false)) ⊎ BreaksAt x rs)) (r .holds) (λ e. ⊎-elim inl (λ h. inr (inr h)) (breaks rs top))
     (λ e. inr (inl (refl, e)))
 
 -- in order from a byte on, and so from an earlier one
@@ -194,7 +194,7 @@ hold-zeros i (b ∷ bytes) h = all-cons (λ (x : ℕ). eqb x 0) b bytes ∙ both
 zeros-moved : (i k top : ℕ) (bytes : List ℕ) → breach (zeroRules (i + k) bytes) (i + top) ≡ i + breach (zeroRules k bytes) top
 zeros-moved i k top [] = refl
 zeros-moved i k top (b ∷ bytes) =
-    rw (← add-suc i k, zeros-moved i (suc k) top bytes) (sym (pick-map (λ (n : ℕ). i + n) (eqb b 0) (breach (zeroRules (suc k) bytes) top) k))
+    rw (← add-suc i k, zeros-moved i (suc k) top bytes) (sym (if-map (λ (n : ℕ). i + n) (eqb b 0) (breach (zeroRules (suc k) bytes) top) k))
 
 -- from byte i on, a breach lies i further than from byte 0 on
 pub zeros-shift : (i top : ℕ) (bytes : List ℕ) → breach (zeroRules i bytes) (i + top) ≡ i + breach (zeroRules 0 bytes) top

@@ -4,8 +4,8 @@ use mathlib.Core.Path.{_≡_, refl}
 use mathlib.Core.Bool.{true, false}
 use mathlib.Core.List.{List, [], _∷_, _++_}
 use lib.ListN.{replicate}
-use Rattle.wire.specs.Numbers.{byteAt, wordAt, numberAt, two, four}
-use Rattle.wire.specs.Fields.{setByte4, setByte5, statusByte4, joined4, statusByte12, joined12}
+use Rattle.wire.specs.Numbers.{wordAt, numberAt, two, four}
+use Rattle.wire.specs.Bits.{bits, bitAt}
 use Rattle.wire.specs.Buffers.{shown, padded, allZero}
 use Rattle.wire.specs.Rules.{lengthWrong, breach, zeroRules}
 
@@ -26,44 +26,20 @@ k-whole = refl
 k-cut : lengthWrong 20 (k ++ replicate 45 0) ≡ true
 k-cut = refl
 
--- SCOPE 1, locked
-k-byte-4 : setByte4 (byteAt k 4) ≡ record { scope = 1; reserved = 0; lock = true }
-k-byte-4 = refl
-
--- CEEM 1, CKOD
-k-byte-5 : setByte5 (byteAt k 5) ≡ record { ceem = 1; rdmc = 0; sdk = false; ckod = true; ckorp = false; ckorl = false }
-k-byte-5 = refl
-
 -- a byte past the end is 0
 k-past : wordAt k 5 ≡ 0x4400
 k-past = refl
 
--- every bit set
-full-4 : setByte4 0xFF ≡ record { scope = 7; reserved = 15; lock = true }
-full-4 = refl
-
-full-5 : setByte5 0xFF ≡ record { ceem = 3; rdmc = 3; sdk = true; ckod = true; ckorp = true; ckorl = true }
-full-5 = refl
-
-full-status-4 : statusByte4 0xFF ≡ record { nexusScope = 7; zeros = 3; setScope = 7 }
-full-status-4 = refl
-
-full-status-12 : statusByte12 0xFF ≡ record { zeros = 31; ceems = 3; rdmd = true }
-full-status-12 = refl
-
--- P2's status, bytes 4, 8 to 11 and 12: "21 .. 00 00 00 01 02"
-p2-byte-4 : joined4 1 1 ≡ 0x21
-p2-byte-4 = refl
-
+-- P2's status, bytes 8 to 11
 p2-number : four 1 ≡ 0x00 ∷ 0x00 ∷ 0x00 ∷ 0x01 ∷ []
 p2-number = refl
 
-p2-byte-12 : joined12 1 false ≡ 0x02
-p2-byte-12 = refl
+-- bits 5 to 4, and bit 3, of byte 5 of page K with RDMC 11b
+two-bits : bits 5 4 0x74 ≡ 3
+two-bits = refl
 
--- a PUBLIC nexus that a set with scope ALL serves
-public-of-all : joined4 0 2 ≡ 0x02
-public-of-all = refl
+one-bit : bitAt 3 0x74 ≡ false
+one-bit = refl
 
 -- the order of the bytes
 page-code : two 0x0120 ≡ 0x01 ∷ 0x20 ∷ []

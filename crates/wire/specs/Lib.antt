@@ -1,4 +1,4 @@
 pub mod Numbers
-pub mod Fields
+pub mod Bits
 pub mod Buffers
 pub mod Rules

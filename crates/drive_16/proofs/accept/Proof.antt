@@ -1,7 +1,7 @@
 use borrow.Author.Needs.{needs}
 use mathlib.Core.Bool.{_&&_}
 use mathlib.Core.Path.{_≡_, sym, ap, _∙_}
-use Rattle.arrays.proofs.Base.{pick-true}
+use Rattle.arrays.proofs.Base.{if-true}
 use Rattle.places.specs.Actions.{noPlace, taken}
 use Rattle.places.specs.declared.Room.{Room}
 use Rattle.device_16.specs.Model.{state, device}
@@ -33,7 +33,7 @@ accept-spec =
     (λ c κs. search needs)
     (λ c κs. search needs)
     (λ c κs. search needs)
-    (λ c. c .refuse .ensures ∙ sym (pick-true _ _ _ (sym (tested (c .before .before)) ∙ c .before .if1 .taken)))
+    (λ c. c .refuse .ensures ∙ sym (if-true _ _ _ (sym (tested (c .before .before)) ∙ c .before .if1 .taken)))
     (λ c κs. search needs)
     (λ c κs. search needs)
     (λ c κs. search needs)

@@ -8,7 +8,7 @@ use Rattle.sizes_16.specs.Sizes.{nexusCount, placeCount}
 use Rattle.device_16.specs.Model.{state}
 use Rattle.device_16.specs.declared.Device.{Device}
 use Rattle.drive.specs.Calls.{happens}
-use Rattle.drive.specs.Answers.{answer}
+use Rattle.drive.specs.Checks.{answer}
 use Rattle.drive_16.specs.Outcomes.{outcomeBy}
 use Rattle.drive.proofs.Effects.{known-agrees}
 use borrow.Author.Tests.{not-true, not-false}

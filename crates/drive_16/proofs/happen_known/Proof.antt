@@ -8,7 +8,7 @@ use Rattle.sizes_16.specs.Sizes.{nexusCount, placeCount}
 use Rattle.device_16.specs.Model.{state}
 use Rattle.device_16.specs.declared.Device.{Device}
 use Rattle.drive.specs.Calls.{happens}
-use Rattle.drive.specs.Answers.{knownAnswer}
+use Rattle.drive.specs.Checks.{knownAnswer}
 use Rattle.drive_16.specs.Outcomes.{outcomeBy}
 use Rattle.drive_16.proofs.Outcomes.{event-answered, event-kept, event-done}
 use Rattle.drive_16.proofs.happen_known.Statement.{statement}

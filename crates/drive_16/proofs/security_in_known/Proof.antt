@@ -5,7 +5,7 @@ use denote.Ref.{now}
 use Rattle.answer.specs.declared.Answer.{Answer}
 use Rattle.device_16.specs.Model.{state}
 use Rattle.drive.specs.Calls.{securityIn}
-use Rattle.drive.specs.Answers.{firstOf, commandedOf, checks, knownAnswer}
+use Rattle.drive.specs.Checks.{firstOf, commandedOf, checks, knownAnswer}
 use Rattle.drive.specs.Outcomes.{inBuffer}
 use Rattle.drive.proofs.Checks.{fault-told, done-told}
 use Rattle.drive_16.specs.Outcomes.{inOutcomeBy}

@@ -7,9 +7,10 @@ use Rattle.answer.specs.declared.Answer.{Answer}
 use Rattle.page.specs.declared.Checked.{Checked}
 use Rattle.device_16.specs.Model.{state}
 use Rattle.drive.specs.Calls.{Call, securityOut}
-use Rattle.drive.specs.Answers.{firstOf, commandedOf, isOutPage, pageChecked, check10, checks, knownAnswer}
+use Rattle.status.specs.Pages.{isOutPage}
+use Rattle.drive.specs.Checks.{firstOf, commandedOf, pageChecked, check10, checks, knownAnswer}
 use Rattle.drive.proofs.Checks.{first-stops, first-passes, first-fault, first-next, last-is, told-fault, told-done, fault-told}
-use Rattle.drive_16.specs.Outcomes.{outcomeBy, accepted}
+use Rattle.drive_16.specs.Outcomes.{outcomeBy, pageOutcome}
 use Rattle.drive_16.proofs.Outcomes.{out-refused, page-decides}
 use Rattle.drive_16.proofs.security_out_known.Statement.{statement}
 use Rattle.drive_16.proofs.security_out_known.Tie as tie
@@ -88,5 +89,5 @@ security-out-known-spec =
     (λ c κs. search needs)
     (λ c. let passed = c .before .before in
     let s = passed .before .before .before .before .before .before .before .before in
-    c .accept .ensures ∙ ap (λ (x : Checked). accepted (state (s .args .d)) (s .args .command .nexus) (x .page)) (passed .before .before .check-page .ensures)
+    c .accept .ensures ∙ ap (λ (x : Checked). pageOutcome (state (s .args .d)) (s .args .command .nexus) (x .page)) (passed .before .before .check-page .ensures)
     ∙ page-decides (state (s .args .d)) (s .args .command) (now (s .args .page)) (given s) (page-passed passed)))

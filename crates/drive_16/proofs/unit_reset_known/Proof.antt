@@ -1,5 +1,5 @@
 use borrow.Author.Needs.{needs}
-use Rattle.drive.specs.Answers.{checks, knownAnswer}
+use Rattle.drive.specs.Checks.{checks, knownAnswer}
 use Rattle.drive.specs.Effects.{effectBy}
 use Rattle.drive.specs.After.{changedBy, carriedOut}
 use Rattle.drive_16.specs.Outcomes.{outcomeBy}

@@ -13,7 +13,7 @@ use Rattle.device.proofs.Selecting.{found}
 use Rattle.sizes_16.specs.Sizes.{nexusCount}
 use Rattle.device_16.specs.Model.{state}
 use Rattle.drive.specs.Calls.{write}
-use Rattle.drive.specs.Answers.{firstOf, heardOf, permitted, checks, knownAnswer}
+use Rattle.drive.specs.Checks.{firstOf, heardOf, permitted, checks, knownAnswer}
 use Rattle.drive.proofs.Checks.{first-stops, first-passes, told-fault, told-done, fault-told, done-told}
 use Rattle.drive_16.specs.Outcomes.{writeOutcomeBy}
 use Rattle.drive_16.proofs.Outcomes.{write-refused, write-done}

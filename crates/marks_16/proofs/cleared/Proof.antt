@@ -50,10 +50,10 @@ use Rattle.sizes_16.specs.Sizes.{nexusCount}
 use Rattle.device.proofs.Nexus as T
 use Rattle.device.proofs.Nexus.Laws as T′
 use Rattle.marks.specs.Reset.{unmarked}
-use Rattle.marks.proofs.clear_marks as clear
-use Rattle.marks.proofs.clear_marks.Symbol as clear-def
-use Rattle.marks.proofs.clear_marks.Symbol.{name as #marks·clear-marks}
-use Rattle.marks.proofs.clear_marks.Met as clear-thm
+use Rattle.marks_code.proofs.clear_marks as clear
+use Rattle.marks_code.proofs.clear_marks.Symbol as clear-def
+use Rattle.marks_code.proofs.clear_marks.Symbol.{name as #marks·clear-marks}
+use Rattle.marks_code.proofs.clear_marks.Met as clear-thm
 use Rattle.marks_16.proofs.cleared.Key.{name as #marks·cleared}
 use Rattle.marks_16.proofs.cleared as f
 use Rattle.marks_16.proofs.cleared.Statement as stated
@@ -180,4 +180,4 @@ cleared-spec 𝓤 H 𝓜 𝓖 𝓡 =
     entered 𝓤 H (tripleOf 𝓤 H (𝓖 .A) f.signature (f.spec 𝓤 H (𝓖 .A) (𝓜 .mem) (𝓡 .run)))
     (tables 𝓤 H 𝓜 𝓡 code.env .C) (tables 𝓤 H 𝓜 𝓡 code.env .Λ) #marks·cleared code.function (code.unfolded 𝓤 H 𝓜 𝓡)
     (meets 𝓤 H (𝓖 .A) (givenOf 𝓤 H 𝓜 𝓖) (𝓜 .mem) (𝓡 .run) (tablesOf 𝓤 H 𝓜 (tables 𝓤 H 𝓜 𝓡 code.env))
-    (cited 𝓤 H (tripleOf 𝓤 H (𝓖 .A) clear.signature (clear.spec 𝓤 H (𝓖 .A) (𝓜 .mem) (𝓡 .run))) 𝓜 𝓡 code.env #marks·clear-marks clear-def.routine code.calls-marks·clear-marks (clear-thm.met 𝓤 H 𝓜 𝓖 𝓡)))
+    (cited 𝓤 H (tripleOf 𝓤 H (𝓖 .A) clear.signature (clear.spec 𝓤 H (𝓖 .A) (𝓜 .mem) (𝓡 .run))) 𝓜 𝓡 code.env #marks·clear-marks clear-def.routine code.calls-marks-code·clear-marks (clear-thm.met 𝓤 H 𝓜 𝓖 𝓡)))

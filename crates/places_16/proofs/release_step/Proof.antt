@@ -1,6 +1,6 @@
 use borrow.Author.Needs.{needs}
 use mathlib.Core.Path.{sym, ap, _∙_}
-use Rattle.arrays.proofs.Base.{pick-true, pick-false}
+use Rattle.arrays.proofs.Base.{if-true, if-false}
 use Rattle.device_16.specs.Model.{state, device}
 use Rattle.places.specs.Actions.{release, act}
 use Rattle.places_16.proofs.release_step.Statement.{statement}
@@ -17,8 +17,8 @@ release-step-spec =
     (λ c.
     let tested = c .before .before in
     let a = tested .before .before .args in
-    c .release .ensures ∙ ap device (sym (pick-true _ (act (state (a .t1)) (release (a .place))) (state (a .t1)) (rw (tested .is-due .ensures) at (c .before .if1 .taken)))))
+    c .release .ensures ∙ ap device (sym (if-true _ (act (state (a .t1)) (release (a .place))) (state (a .t1)) (rw (tested .is-due .ensures) at (c .before .if1 .taken)))))
     (λ c.
     let tested = c .before in
     let a = tested .before .before .args in
-    ap device (sym (pick-false _ (act (state (a .t1)) (release (a .place))) (state (a .t1)) (rw (tested .is-due .ensures) at (c .if1 .left))))))
+    ap device (sym (if-false _ (act (state (a .t1)) (release (a .place))) (state (a .t1)) (rw (tested .is-due .ensures) at (c .if1 .left))))))

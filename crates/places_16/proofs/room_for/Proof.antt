@@ -17,4 +17,4 @@ room-for-spec =
     (λ c κs. search needs)
     (λ c κs. search needs)
     (λ c. simp (sym (c .before .before .before .own-place .ensures) ∙ c .before .place .given .1))
-    (λ c. simp (c .free-at .ensures, c .before .taken-at .ensures, c .before .before .lowest-unlocked .ensures, c .before .before .before .lowest-empty .ensures, sym (c .before .before .before .before .before .before .own-place .ensures) ∙ c .before .before .before .before .enum-told .given .1)))
+    (λ c. simp (c .free-at .ensures, c .before .evicting-at .ensures, c .before .before .lowest-unlocked .ensures, c .before .before .before .lowest-empty .ensures, sym (c .before .before .before .before .before .before .own-place .ensures) ∙ c .before .before .before .before .enum-told .given .1)))

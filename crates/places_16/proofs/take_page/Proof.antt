@@ -10,4 +10,4 @@ take-page-spec =
     (λ c. simp (c .before .if1 .taken, c .supplement .ensures))
     (λ c κs. search needs)
     (λ c κs. search needs)
-    (λ c. simp (c .before .before .if1 .left, c .settle .ensures, c .before .act-page .ensures)))
+    (λ c. simp (c .before .before .if1 .left, c .sender-after .ensures, c .before .act-page .ensures)))

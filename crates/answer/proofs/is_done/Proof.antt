@@ -1,6 +1,0 @@
-use borrow.Author.Needs.{needs}
-use Rattle.answer.proofs.is_done.Statement.{statement}
-use Rattle.answer.proofs.is_done.Tie as tie
-
-pub is-done-spec : {M : Type 1} → statement M
-is-done-spec = tie.close (tie.spec (λ c κs. search needs) (λ c. simp (c .before .row-of .ensures)))

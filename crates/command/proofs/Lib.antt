@@ -1,0 +1,4 @@
+pub mod Requests
+pub mod Replies
+pub mod Stores
+pub mod Worked

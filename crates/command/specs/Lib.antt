@@ -1,0 +1,4 @@
+pub mod Kinds
+pub mod Requests
+pub mod Replies
+pub mod Claims

@@ -1,6 +1,0 @@
-use borrow.Author.Needs.{needs}
-use Rattle.device.proofs.field_codes.Statement.{statement}
-use Rattle.device.proofs.field_codes.Tie as tie
-
-pub field-codes-spec : {M : Type 1} → statement M
-field-codes-spec = tie.close (tie.spec (λ c κs. search needs) (λ c. simp (c .lengths-good .ensures)))

@@ -1,6 +1,0 @@
-use borrow.Author.Needs.{needs}
-use Rattle.places.proofs.is_due.Statement.{statement}
-use Rattle.places.proofs.is_due.Tie as tie
-
-pub is-due-spec : {M : Type 1} → statement M
-is-due-spec = tie.close (tie.spec (λ c κs. search needs) (λ c. simp (c .is-released .ensures)))

@@ -1,0 +1,4 @@
+pub mod Loading
+pub mod Owned
+pub mod RoundTrip
+pub mod Settled

@@ -1,0 +1,28 @@
+-- The two ways that a load ends.
+-- Assumes nothing.
+use Prim.Native.Nat.{ℕ}
+use mathlib.Core.Path.{_≡_, refl, sym, ap, _∙_}
+use mathlib.Core.Bool.{Bool, true, false}
+use mathlib.Core.List.{List}
+use Rattle.device.specs.Record.{powerOn}
+use Rattle.record.specs.Bytes.{recordBytes}
+use Rattle.record.specs.Reading.{recordRead}
+use Rattle.record.specs.Good.{sameBytes, goodBytes, recordTaken}
+use Rattle.record.proofs.RoundTrip.{refused}
+use Rattle.sizes_16.specs.Sizes.{nexusCount, placeCount}
+use Rattle.device_16.specs.Model.{state, device}
+use Rattle.device_16.specs.declared.Device.{Device}
+use Rattle.record_16.specs.Loading.{loaded}
+
+module _ (bytes : List ℕ) {again : List ℕ} {read : Device} {ok : Bool} (made : read ≡ device (recordRead nexusCount placeCount bytes)) (written : again ≡ recordBytes (state read)) (compared : ok ≡ sameBytes bytes again) where
+  -- what the comparison tells
+  told : ok ≡ goodBytes nexusCount placeCount bytes
+  unfolding goodBytes
+  told = compared ∙ ap (sameBytes bytes) (written ∙ ap (λ (d : Device). recordBytes (state d)) made)
+
+  pub load-takes : ok ≡ true → record { good = true; device = read } ≡ loaded bytes
+  unfolding recordTaken
+  load-takes t = let g : goodBytes nexusCount placeCount bytes ≡ true = sym told ∙ t in rw (g, made) refl
+
+  pub load-refuses : ok ≡ false → {new : Device} → new ≡ device (powerOn nexusCount placeCount) → record { good = false; device = new } ≡ loaded bytes
+  load-refuses f e = let g : goodBytes nexusCount placeCount bytes ≡ false = sym told ∙ f in rw (g, e, refused nexusCount placeCount bytes g) refl

@@ -1,0 +1,4 @@
+pub mod Giving
+pub mod Tools
+pub mod Obeying
+pub mod Settled

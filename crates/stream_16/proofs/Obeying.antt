@@ -1,0 +1,69 @@
+-- An order followed, and a command obeyed.
+-- Assumes nothing.
+use Prim.Native.Nat.{ℕ, _+_, _<_, _≤_}
+use mathlib.Core.Path.{_≡_, refl, sym, ap, _∙_}
+use mathlib.Core.List.{List}
+use borrow.Author.Tests.{lt-ltb, le-ltb}
+use native.Mathlib.Omega.{arith}
+use lib.ListN.{length}
+use Rattle.arrays.proofs.Base.{if-true}
+use Rattle.answer.specs.declared.Answer.the-variants.{Done}
+use Rattle.device.specs.Record.{State, powerOn}
+use Rattle.device_16.specs.Model.{device}
+use Rattle.sizes_16.specs.Sizes.{nexusCount, placeCount}
+use Rattle.drive.specs.Calls.{Call, powerUp}
+use Rattle.drive.specs.Checks.{answer, checks}
+use Rattle.drive.specs.Effects.{effectBy}
+use Rattle.drive.specs.After.{changedBy, carriedOut}
+use Rattle.drive_16.specs.Outcomes.{poweredOn, outcomeBy, outcome}
+use Rattle.drive_16.specs.declared.Outcome.{Outcome}
+use Rattle.command.specs.Requests.{lentMost, orderOf, lentSize}
+use Rattle.command.specs.Replies.{Replied, unknownReply, called, obeyed}
+use Rattle.command.specs.declared.Request.{Request}
+use Rattle.command.specs.declared.Order.{Order}
+use Rattle.command.proofs.Requests.{lends-most}
+use Rattle.stream_16.specs.Stream.{lentFrom, lentPart, replyMost, replyOf, replyWith, Given, served}
+use Rattle.stream_16.specs.declared.Reply.{Reply}
+use Rattle.stream_16.proofs.Giving.{kept}
+
+-- a call that gives its answer alone
+pub call-told : (s : State) (call : Call) {o : Outcome} {r : Reply} → o ≡ outcome s call → r ≡ replyWith (o .device) (o .answer) 0
+    → r ≡ replyOf (called s call)
+unfolding outcomeBy
+call-told s call p u = u ∙ ap (λ (x : Outcome). replyWith (x .device) (x .answer) 0) p
+
+-- power-on
+pub power-told : (s : State) {o : Outcome} {r : Reply} → length (s .nexuses) ≡ nexusCount → length (s .sets) ≡ placeCount → o ≡ poweredOn
+    → r ≡ replyWith (o .device) (o .answer) 0 → r ≡ replyOf (called s powerUp)
+unfolding answer checks effectBy changedBy carriedOut
+power-told s nexuses places p u =
+    let same : powerOn nexusCount placeCount ≡ powerOn (length (s .nexuses)) (length (s .sets)) = rw (nexuses, places) refl in
+    u ∙ ap (λ (x : Outcome). replyWith (x .device) (x .answer) 0) p ∙ ap (λ (x : State). replyWith (device x) Done 0) same
+
+-- what is lent to an order that is known fits
+pub fits-known : {order known : Order} {n : ℕ} → order ≡ known → (lentFrom + lentSize order ≤ n) × (lentSize order ≤ lentMost)
+    → (lentFrom + lentSize known ≤ n) × (lentSize known ≤ lentMost)
+fits-known e h = rw e at h
+
+-- an order that is known is followed
+pub followed : (s : State) (page b : List ℕ) {order known : Order} {r : Reply} {end : List ℕ} → order ≡ known
+    → Given (obeyed s known page (lentPart (lentSize known) b)) b r end → Given (obeyed s order page (lentPart (lentSize order) b)) b r end
+followed s page b e g = rw e g
+
+module _ (s : State) (request : Request) (page b : List ℕ) where
+  -- a buffer that is too short
+  pub short-served : (r : Reply) → length b < replyMost → r ≡ replyOf (unknownReply s) → Given (served s request page b) b r b
+  unfolding served
+  short-served r h u =
+      let e = if-true _ (unknownReply s) _ (lt-ltb _ _ h) in
+      kept (served s request page b) b r (ap (λ (x : Replied). x .bytes) e) (u ∙ ap replyOf (sym e))
+
+  -- one that isn't holds what is lent
+  pub lent-fits : {order : Order} → replyMost ≤ length b → order ≡ orderOf request
+      → (lentFrom + lentSize order ≤ length b) × (lentSize order ≤ lentMost)
+  lent-fits h e = (omega (arith, ap lentSize e, lends-most request), omega (arith, ap lentSize e, lends-most request))
+
+  pub long-served : {order : Order} {r : Reply} {end : List ℕ} → replyMost ≤ length b → order ≡ orderOf request
+      → Given (obeyed s order page (lentPart (lentSize order) b)) b r end → Given (served s request page b) b r end
+  unfolding served
+  long-served {order} h e g = rw (le-ltb _ _ h) (rw e at g)

@@ -1,0 +1,91 @@
+-- The replies of the status reader, and of a record taken and given.
+-- Assumes nothing.
+use Prim.Native.Nat.{ℕ, _+_, _≤_}
+use mathlib.Core.Path.{_≡_, refl, sym, ap, _∙_}
+use mathlib.Core.Bool.{Bool, true, false}
+use native.Mathlib.Omega.{arith}
+use mathlib.Core.List.{List, [], _++_}
+use lib.ListN.{length, length-append}
+use lib.Seq.{sets}
+use Rattle.arrays.proofs.Base.{cases, if-true, if-false}
+use Rattle.wire.proofs.Stores.{sets-append}
+use Rattle.answer.specs.Answers.{isDone}
+use Rattle.answer.specs.declared.Answer.the-variants.{Done, NotWellFormed}
+use Rattle.device.specs.Record.{State}
+use Rattle.device_16.specs.Model.{device}
+use Rattle.status.specs.Reading.{readStatus}
+use Rattle.status.specs.declared.StatusRead.{StatusRead}
+use Rattle.sizes_16.specs.Sizes.{nexusCount, placeCount}
+use Rattle.record.specs.Bytes.{kadsBytes, recordBytes}
+use Rattle.record.specs.Reading.{recordRead}
+use Rattle.record.specs.Good.{goodBytes, recordTaken}
+use Rattle.record_16.specs.Loading.{loaded}
+use Rattle.record_16.specs.declared.Loaded.{Loaded}
+use Rattle.command.specs.Replies.{answered, whenDone, valuesHead, valuesBytes, statusReply, takeReply, giveReply}
+use Rattle.stream_16.specs.Stream.{replyHeadSize, replyMost, replyOf, replyWith, Given}
+use Rattle.stream_16.specs.declared.Reply.{Reply}
+use Rattle.stream_16.proofs.Giving.{kept}
+
+-- the status reader
+module _ (s : State) (page : List ℕ) {read : StatusRead} (p : read ≡ readStatus page) where
+  -- refused: no data
+  pub status-stopped : (b : List ℕ) (r : Reply) → isDone (read .answer) ≡ false → r ≡ replyWith (device s) (read .answer) 0
+      → Given (statusReply s page) b r b
+  unfolding statusReply
+  status-stopped b r f u =
+      let a = readStatus page .answer in
+      let stopped : isDone a ≡ false = sym (ap (λ (x : StatusRead). isDone (x .answer)) p) ∙ f in
+      let none : whenDone a (valuesBytes (readStatus page .status)) ≡ [] = if-false _ _ _ stopped in
+      kept (statusReply s page) b r none
+      (u ∙ ap (λ (x : StatusRead). replyWith (device s) (x .answer) 0) p ∙ ap (λ (l : List ℕ). replyWith (device s) a (length l)) (sym none))
+
+  -- read: the values are stored, then the key-associated data
+  pub status-given : (b : List ℕ) (at count : ℕ) {head rest first end : List ℕ} {r : Reply} → isDone (read .answer) ≡ true
+      → head ≡ valuesHead (read .status) → rest ≡ kadsBytes (read .status .kads) → replyHeadSize + length head ≡ at → length head + length rest ≡ count → replyHeadSize + count ≤ replyMost
+      → first ≡ sets b replyHeadSize head → end ≡ sets first at rest → r ≡ replyWith (device s) (read .answer) count → Given (statusReply s page) b r end
+  unfolding statusReply
+  status-given b at count {head} {rest} {first} {end} {r} d h k size total small t v u =
+      let a = readStatus page .answer in
+      let values = valuesBytes (readStatus page .status) in
+      let done : isDone a ≡ true = sym (ap (λ (x : StatusRead). isDone (x .answer)) p) ∙ d in
+      let given : whenDone a values ≡ values = if-true _ _ _ done in
+      let bytes : head ++ rest ≡ values = (λ i. h i ++ k i) ∙ ap (λ (x : StatusRead). valuesBytes (x .status)) p in
+      let counted : count ≡ length values = sym total ∙ sym (length-append head rest) ∙ ap length bytes in
+      record {
+        tells = u ∙ ap (λ (x : StatusRead). replyWith (device s) (x .answer) count) p ∙ ap (replyWith (device s) a) (counted ∙ ap length (sym given));
+        holds =
+            v ∙ ap (λ (x : List ℕ). sets x at rest) t ∙ ap (λ (j : ℕ). sets (sets b replyHeadSize head) j rest) (sym size)
+            ∙ sets-append b replyHeadSize head rest ∙ ap (sets b replyHeadSize) (bytes ∙ sym given);
+        fits = omega (arith, counted, ap length given);
+      }
+
+-- a record taken
+module _ (s : State) (bytes : List ℕ) {l : Loaded} (nexuses : length (s .nexuses) ≡ nexusCount) (places : length (s .sets) ≡ placeCount) (p : l ≡ loaded bytes) where
+  -- the test, by the record's own sizes
+  tested : (b : Bool) → l .good ≡ b → goodBytes (length (s .nexuses)) (length (s .sets)) bytes ≡ b
+  tested b e = rw (nexuses, places) (sym (ap (λ (x : Loaded). x .good) p) ∙ e)
+
+  pub take-refused : (r : Reply) → l .good ≡ false → r ≡ replyWith (device s) NotWellFormed 0 → r ≡ replyOf (takeReply s bytes)
+  unfolding takeReply
+  take-refused r f u = u ∙ ap replyOf (sym (if-false _ _ (answered NotWellFormed [] s) (tested false f)))
+
+  pub take-done : (r : Reply) → l .good ≡ true → r ≡ replyWith (l .device) Done 0 → r ≡ replyOf (takeReply s bytes)
+  unfolding takeReply recordTaken
+  take-done r t u =
+      let is-good : goodBytes nexusCount placeCount bytes ≡ true = sym (ap (λ (x : Loaded). x .good) p) ∙ t in
+      let same : recordRead nexusCount placeCount bytes ≡ recordRead (length (s .nexuses)) (length (s .sets)) bytes = rw (nexuses, places) refl in
+      u ∙ ap (λ (x : Loaded). replyWith (x .device) Done 0) p
+      ∙ ap (λ (x : State). replyWith (device x) Done 0) (if-true _ _ _ is-good ∙ same)
+      ∙ ap replyOf (sym (if-true _ _ (answered NotWellFormed [] s) (tested true t)))
+
+-- neither way has data
+pub taken-none : (s : State) (bytes : List ℕ) → takeReply s bytes .bytes ≡ []
+unfolding takeReply
+taken-none s bytes = cases (goodBytes (length (s .nexuses)) (length (s .sets)) bytes) (λ t. rw t refl) (λ f. rw f refl)
+
+-- the record given
+pub record-given : (s : State) (b : List ℕ) (count : ℕ) {bytes end : List ℕ} {r : Reply} → bytes ≡ recordBytes s → length bytes ≡ count → replyHeadSize + count ≤ replyMost
+    → end ≡ sets b replyHeadSize bytes → r ≡ replyWith (device s) Done count → Given (giveReply s) b r end
+unfolding giveReply
+record-given s b count e size small t u =
+    record { tells = u ∙ ap (replyWith (device s) Done) (sym size ∙ ap length e); holds = t ∙ ap (sets b replyHeadSize) e; fits = omega (arith, size, ap length e) }

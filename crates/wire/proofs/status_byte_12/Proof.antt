@@ -1,7 +1,0 @@
-use Prim.Native.Nat.{_/_}
-use lib.Bits.{and-mask}
-use Rattle.wire.proofs.status_byte_12.Statement.{statement}
-use Rattle.wire.proofs.status_byte_12.Tie as tie
-
-pub status-byte-12-spec : {M : Type 1} → statement M
-status-byte-12-spec = tie.close (tie.spec (λ c. let b = c .args .b in simp (and-mask (b / 2) 2, and-mask b 1)))

@@ -1,0 +1,140 @@
+// Bytes: big-endian numbers, stores into a lent buffer, runs of zeros.
+ghost use mathlib.Core.Path.{_≡_};
+ghost use Prim.Native.Nat.{_<_};
+ghost use lib.ListN.{length, drop};
+ghost use lib.Seq.{sets};
+ghost use Rattle.wire.specs.Numbers.{byteAt, word, number, wordAt, two, four};
+ghost use Rattle.wire.specs.Buffers.{Shown, padded, allZero};
+ghost use Rattle.wire.specs.Rules.{lengthWrong, breach, zeroRules};
+
+// The byte at an index, 0 past the end.
+pub fn byte_at(s: &[u8], at: usize) -> u8
+    ensures { λ r. ⌜ r ≡ byteAt (now (s .entry)) at ⌝ }
+{
+    if at < s.len() { s[at] } else { 0 }
+}
+
+// The number in two bytes, the higher first.
+pub fn word(high: u8, low: u8) -> usize
+    ensures { λ r. ⌜ (r ≡ word high low) × (r < 65536) ⌝ }
+{
+    high as usize * 256 + low as usize
+}
+
+// The number in four bytes, the highest first.
+pub fn number(a: u8, b: u8, c: u8, d: u8) -> u32
+    ensures { λ r. ⌜ r ≡ number a b c d ⌝ }
+{
+    a as u32 * 16777216 + b as u32 * 65536 + c as u32 * 256 + d as u32
+}
+
+// The number in the two bytes at an index, of which those past the end are 0.
+pub fn word_at(s: &[u8], at: usize) -> usize
+    ensures { λ r. ⌜ (r ≡ wordAt (now (s .entry)) at) × (r < 65536) ⌝ }
+{
+    if at < s.len() {
+        word(s[at], byte_at(s, at + 1))
+    } else {
+        0
+    }
+}
+
+pub fn two(n: u16) -> [u8; 2]
+    ensures { λ r. ⌜ r ≡ two n ⌝ }
+{
+    [(n / 256) as u8, (n % 256) as u8]
+}
+
+pub fn four(n: u32) -> [u8; 4]
+    ensures { λ r. ⌜ r ≡ four n ⌝ }
+{
+    [
+        (n / 16777216) as u8,
+        (n / 65536 % 256) as u8,
+        (n / 256 % 256) as u8,
+        (n % 256) as u8,
+    ]
+}
+
+// Stores part's bytes in the buffer from an index on, as many as it holds.
+pub fn put(buffer: &mut [u8], at: usize, part: &[u8])
+    ensures { λ _. ⌜ now (buffer .exit) ≡ sets (now (buffer .entry)) at (now (part .entry)) ⌝ }
+{
+    let mut i = 0;
+    let mut to = at;
+    while i < part.len() {
+        if buffer.len() <= to {
+            return;
+        }
+        buffer[to] = part[i];
+        to += 1;
+        i += 1;
+    }
+}
+
+// Shows a page in a lent buffer, and tells the page's full length.
+pub fn show(page: &[u8], buffer: &mut [u8]) -> usize
+    ensures { λ r. ⌜ Shown (now (page .entry)) (now (buffer .entry)) r (now (buffer .exit)) ⌝ }
+{
+    put(buffer, 0, page);
+    page.len()
+}
+
+// The first bytes of a part, as many as fit, and zeros.
+pub fn padded_32(part: &[u8]) -> [u8; 32]
+    ensures { λ r. ⌜ r ≡ padded 32 (now (part .entry)) ⌝ }
+{
+    let mut out = [0u8; 32];
+    put(&mut out, 0, part);
+    out
+}
+
+pub fn padded_12(part: &[u8]) -> [u8; 12]
+    ensures { λ r. ⌜ r ≡ padded 12 (now (part .entry)) ⌝ }
+{
+    let mut out = [0u8; 12];
+    put(&mut out, 0, part);
+    out
+}
+
+// The index of the first byte that is not zero, or the length.
+pub fn first_not_zero(part: &[u8]) -> usize
+    ensures { λ r. ⌜ r ≡ breach (zeroRules 0 (now (part .entry))) (length (now (part .entry))) ⌝ }
+{
+    let mut i = 0;
+    while i < part.len() {
+        if part[i] != 0 {
+            return i;
+        }
+        i += 1;
+    }
+    i
+}
+
+pub fn all_zero(part: &[u8]) -> bool
+    ensures { λ r. ⌜ r ≡ allZero (now (part .entry)) ⌝ }
+{
+    let mut good = true;
+    for i in 0..part.len() {
+        good = good & (part[i] == 0);
+    }
+    good
+}
+
+// Each byte from an index on is zero.
+pub fn zero_from(s: &[u8], from: usize) -> bool
+    ensures { λ r. ⌜ r ≡ allZero (drop from (now (s .entry))) ⌝ }
+{
+    if from < s.len() {
+        all_zero(&s[from..])
+    } else {
+        true
+    }
+}
+
+// A page has fewer bytes than the least, or not as many as its bytes 2 and 3 say.
+pub fn is_length_wrong(page: &[u8], least: usize) -> bool
+    ensures { λ r. ⌜ r ≡ lengthWrong least (now (page .entry)) ⌝ }
+{
+    (page.len() < least) | (word_at(page, 2) + 4 != page.len())
+}
