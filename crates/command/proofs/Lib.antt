@@ -1,4 +1,3 @@
 pub mod Requests
 pub mod Replies
-pub mod Stores
 pub mod Worked

@@ -23,7 +23,7 @@ use Rattle.drive.specs.Effects.{effectBy}
 use Rattle.drive.specs.After.{actionsOf, changedBy, carriedOut}
 use Rattle.drive.specs.Outcomes.{responsePage}
 use Rattle.drive.specs.Claims.{page, pageK, locked}
-use Rattle.record.specs.Parts.{joined, parts}
+use Rattle.wire.specs.Parts.{joined, parts}
 use Rattle.record.specs.Bytes.{kadsBytes, setBytes, nexusBytes, recordBytes}
 use Rattle.record.specs.Reading.{kadsRead, fieldsRead, setRead, nexusRead, recordRead}
 use Rattle.record.specs.Good.{goodBytes}

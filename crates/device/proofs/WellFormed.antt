@@ -198,14 +198,12 @@ pub record Well (s : State) : Type 0 where
 pub well : (s : State) → wellFormed s ≡ true → Well s
 unfolding wellFormed
 well s w =
-    let h₃ = and-both _ _ w in
-    let h₂ = and-both _ _ (h₃ .0) in
-    let h₁ = and-both _ _ (h₂ .0) in
+    let h = each-holds _ (_ ∷ _ ∷ _ ∷ []) w in
     record {
-      sets = each-at (setGood (length (s .nexuses))) noSet (s .sets) (h₁ .0);
-      nexuses = each-at (nexusGood (s .sets)) newNexus (s .nexuses) (h₁ .1);
-      owners = each-at (ownerIsLocal (s .nexuses)) noSet (s .sets) (h₂ .1);
-      single = leb-true _ _ (h₃ .1);
+      sets = each-at (setGood (length (s .nexuses))) noSet (s .sets) (h .0);
+      nexuses = each-at (nexusGood (s .sets)) newNexus (s .nexuses) (h .1 .0);
+      owners = each-at (ownerIsLocal (s .nexuses)) noSet (s .sets) (h .1 .1 .0);
+      single = leb-true _ _ (h .1 .1 .1 .0);
     }
 
 -- and all four make it well formed
@@ -243,11 +241,9 @@ zero-good : (nexuses place : ℕ) (set : Set) → 0 < nexuses → setZero set �
 zero-good nexuses place set h z =
     let s = zero-set set z in
     let f = s .fields in
-    let k = and-both _ _ (f .kads) in
-    let a = and-both _ _ (k .0) in
-    let u = and-both _ _ (a .0) in
-    let ul : set .fields .kads .ukad .length ≡ 0 = eqb-true _ _ (u .0) in
-    let al : set .fields .kads .akad .length ≡ 0 = eqb-true _ _ (a .1) in
+    let k = each-holds _ (_ ∷ _ ∷ _ ∷ []) (f .kads) in
+    let ul : set .fields .kads .ukad .length ≡ 0 = eqb-true _ _ (k .0) in
+    let al : set .fields .kads .akad .length ≡ 0 = eqb-true _ _ (k .1 .1 .0) in
     set-good nexuses place set
     (record {
       owner = omega (arith, s .owner);
@@ -261,7 +257,7 @@ zero-good nexuses place set h z =
       };
       supplemental = omega (arith, s .supplemental);
       indexed = λ x. clash x (simp (s .scope));
-      tails = simp (ul, al, u .1, k .1);
+      tails = simp (ul, al, k .1 .0, k .1 .1 .1 .0);
       past = simp (s .supplemental, s .keys);
       fits = λ x. clash x (simp (s .scope));
       zero = λ x. z;
@@ -316,11 +312,10 @@ tested s count l h =
     (each-of (usedGood count (s .nexuses)) noSet (s .sets) (λ place i. at place i .1)))
     (each-of (nexusGood (s .sets)) newNexus (s .nexuses) (w .nexuses)))
     (λ t.
-    let h₂ = and-both _ _ t in
-    let h₁ = and-both _ _ (h₂ .0) in
-    let e = each-at (λ k. emptyIsZero) noSet (s .sets) (h₁ .0) in
-    let u = each-at (usedGood count (s .nexuses)) noSet (s .sets) (h₁ .1) in
-    let n = each-at (nexusGood (s .sets)) newNexus (s .nexuses) (h₂ .1) in
+    let all = each-holds _ (_ ∷ _ ∷ []) t in
+    let e = each-at (λ k. emptyIsZero) noSet (s .sets) (all .0) in
+    let u = each-at (usedGood count (s .nexuses)) noSet (s .sets) (all .1 .0) in
+    let n = each-at (nexusGood (s .sets)) newNexus (s .nexuses) (all .1 .1 .0) in
     let owner : (i : ℕ) → i < length (s .nexuses) → hasAll (nexusAt s i) ≡ true → setAt s 0 .owner ≡ i = λ i m a. good-nexus (s .sets) i (nexusAt s i) (n i m) .all (eqb-true _ _ a) .1 in
     well-formed s
     (record {
@@ -338,13 +333,6 @@ used-within s place u =
     cases (ltb place (length (s .sets)))
     (λ t. ltb-true _ _ t)
     (λ f. clash u (ap used (List·getD-eq-default (s .sets) noSet (ltb-false _ _ f))))
-
--- a nexus that is not PUBLIC is one of the nexuses
-pub scope-within : (s : State) (n : ℕ) → 0 < nexusAt s n .scope → n < length (s .nexuses)
-scope-within s n h =
-    cases (ltb n (length (s .nexuses)))
-    (λ t. ltb-true _ _ t)
-    (λ f. let z : nexusAt s n .scope ≡ 0 = ap (λ (x : Nexus). x .scope) (List·getD-eq-default (s .nexuses) newNexus (ltb-false _ _ f)) in absurd (omega (arith, z)))
 
 module _ (s : State) (w : wellFormed s ≡ true) where
   -- the set in each place is good

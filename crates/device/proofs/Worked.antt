@@ -15,6 +15,7 @@ use Rattle.device.specs.Record.{State, established, emptySet, noMarks, n
 use Rattle.device.specs.Selecting.{ownedPlace, selected}
 use Rattle.device.specs.WellFormed.{setGood, nexusGood, ownerIsLocal, wellFormed}
 use Rattle.parameters.specs.declared.Supplemental.{Supplemental}
+use Rattle.device.specs.Updates.{withMarks, withScope, withLock, withSaved, withLastLocal, withSupplemental, withCounter, withSets, withNexuses}
 use Rattle.device.specs.declared.Set.{Set}
 use Rattle.device.specs.declared.Nexus.{Nexus}
 
@@ -47,7 +48,7 @@ keys count bytes = record { count = count; keys = padded supplementalSize bytes 
 
 -- owner and scope, and the rest
 abbrev setOf : ℕ → ℕ → Fields → Supplemental → Set
-setOf owner scope fields supplemental = record { owner = owner; scope = scope; number = 7; fields = fields; supplemental = supplemental }
+setOf owner scope fields supplemental = withSupplemental supplemental (established owner scope 7 fields)
 
 -- what a set with nothing wrong holds: key-associated data of 3 and 2 bytes, one supplemental key
 abbrev three : List ℕ
@@ -66,7 +67,7 @@ abbrev plain : ℕ → ℕ → Set
 plain owner scope = setOf owner scope someFields oneKey
 
 abbrev nexusOf : ℕ → Nexus
-nexusOf scope = record { scope = scope; lock = true; saved = 6; lastLocal = 6; marks = noMarks }
+nexusOf scope = withScope scope (withLock true (withSaved 6 (withLastLocal 6 (withMarks noMarks newNexus))))
 
 -- nexus 5 has the ALL set, nexuses 3 and 4 the LOCAL sets in places 1 and 2; place 3 is empty with a number
 abbrev sets : List Set
@@ -76,11 +77,11 @@ abbrev nexuses : List Nexus
 nexuses = replicate 3 newNexus ++ nexusOf localScope ∷ nexusOf localScope ∷ nexusOf allScope ∷ replicate 10 newNexus
 
 abbrev busy : State
-busy = record { counter = 7; sets = sets; nexuses = nexuses }
+busy = withCounter 7 (withSets sets (withNexuses nexuses (powerOn 0 0)))
 
 -- with another set in a place
 abbrev withSet : ℕ → Set → State
-withSet place s = record { counter = 7; sets = set sets place s; nexuses = nexuses }
+withSet place s = withCounter 7 (withSets (set sets place s) (withNexuses nexuses (powerOn 0 0)))
 
 -- with other fields in place 1
 abbrev withFields : Fields → State
@@ -100,11 +101,11 @@ withEmpty f = withSet 3 (established 0 0 7 f)
 
 -- with another scope for a nexus
 abbrev withNexus : ℕ → ℕ → State
-withNexus n scope = record { counter = 7; sets = sets; nexuses = set nexuses n (nexusOf scope) }
+withNexus n scope = withCounter 7 (withSets sets (withNexuses (set nexuses n (nexusOf scope)) (powerOn 0 0)))
 
 -- with no nexus that is ALL, and another set in place 0
 abbrev former : Set → State
-former s = record { counter = 7; sets = set sets 0 s; nexuses = set nexuses 5 newNexus }
+former s = withCounter 7 (withSets (set sets 0 s) (withNexuses (set nexuses 5 newNexus) (powerOn 0 0)))
 
 abbrev formed : List State
 formed =
@@ -154,7 +155,7 @@ spoilt =
     -- two nexuses that are ALL, one that does not own place 0, one whose place 0 is empty
     ∷ withNexus 9 allScope
     ∷ withSet 0 (plain 9 allScope)
-    ∷ record { counter = 0; sets = replicate 5 (emptySet 0); nexuses = nexusOf allScope ∷ replicate 15 newNexus }
+    ∷ withCounter 0 (withSets (replicate 5 (emptySet 0)) (withNexuses (nexusOf allScope ∷ replicate 15 newNexus) (powerOn 0 0)))
     -- an empty place with an owner, a mode, an index, CEEM, CKOD, a byte of a key, key-associated data, a supplemental key
     ∷ withSet 3 (established 1 0 7 noFields)
     ∷ withEmpty (fieldsOf 1 0 0 0 false [] noKads)

@@ -13,7 +13,7 @@ use Rattle.page.specs.Check.{publicPage, supplementalPage, setPage, checked}
 use Rattle.device.specs.Record.{State, powerOn, established}
 use Rattle.device.specs.Selecting.{ownedPlace, selected}
 use Rattle.device.specs.WellFormed.{setGood, nexusGood, ownerIsLocal, wellFormed}
-use Rattle.device.specs.Updates.{withMarks, withScope, numbered, atPlace, atNexus}
+use Rattle.device.specs.Updates.{withMarks, withScope, numbered, atPlace, atNexus, withCounter}
 use Rattle.status.specs.Status.{statusBytes}
 use Rattle.marks.specs.Marks.{changes, flagged}
 use Rattle.marks.specs.Reset.{cleared}
@@ -118,7 +118,7 @@ otherNumber = atPlace 1 (numbered 9) (since [])
 
 -- power-on's record with the counter before its wrap
 abbrev lastNumber : State
-lastNumber = record { counter = 4294967295; sets = since [] .sets; nexuses = since [] .nexuses }
+lastNumber = withCounter 4294967295 (since [])
 
 -- a record with nexus n registered and not told of anything
 abbrev known : ℕ → State → State

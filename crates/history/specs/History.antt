@@ -11,9 +11,10 @@ use Rattle.answer.specs.declared.Answer.the-variants.{Done}
 use Rattle.parameters.specs.declared.Fields.{Fields}
 use Rattle.page.specs.declared.Page.{Page}
 use Rattle.parameters.specs.Codes.{allScope}
-use Rattle.device.specs.Record.{State, powerOn, setAt}
+use Rattle.device.specs.Record.{State, powerOn, setAt, established, newNexus}
 use Rattle.device.specs.Selecting.{selected}
 use Rattle.parameters.specs.declared.Supplemental.{Supplemental}
+use Rattle.device.specs.Updates.{withMarks, withScope, withLock, withSupplemental}
 use Rattle.device.specs.declared.Set.{Set}
 use Rattle.device.specs.declared.Marks.{Marks}
 use Rattle.device.specs.declared.Nexus.{Nexus}
@@ -88,10 +89,10 @@ bare s = record { sets = map bareSet (s .sets); nexuses = map bareNexus (s .nexu
 -- a record that holds this and 0 for every number: what the rules are asked of, since none of those used here looks at a number
 -- (`same-but-numbers` says so: records that agree but for their numbers give the same)
 abbrev pub fullSet : BareSet → Set
-fullSet x = record { owner = x .owner; scope = x .scope; number = 0; fields = x .fields; supplemental = x .supplemental }
+fullSet x = withSupplemental (x .supplemental) (established (x .owner) (x .scope) 0 (x .fields))
 
 abbrev pub fullNexus : BareNexus → Nexus
-fullNexus x = record { scope = x .scope; lock = x .lock; saved = 0; lastLocal = 0; marks = x .marks }
+fullNexus x = withScope (x .scope) (withLock (x .lock) (withMarks (x .marks) newNexus))
 
 unfoldable pub full : Bare → State
 full b = record { counter = 0; sets = map fullSet (b .sets); nexuses = map fullNexus (b .nexuses) }

@@ -5,18 +5,19 @@ use mathlib.Core.Path.{_≡_, refl}
 use mathlib.Core.List.{List, [], _∷_, map}
 use mathlib.Core.Bool.{Bool, true, false}
 use Rattle.answer.specs.declared.Change.the-variants.{Unchanged, AnotherCleared, VendorCleared, Registered}
-use Rattle.device.specs.Record.{State, established, emptySet}
+use Rattle.device.specs.Record.{State, established, emptySet, newNexus, powerOn}
 use Rattle.device.specs.Selecting.{ownedPlace, selected}
 use Rattle.device.specs.declared.Set.{Set}
 use Rattle.device.specs.declared.Nexus.{Nexus}
 use Rattle.marks.specs.Marks.{changes, differs, flagged}
 use Rattle.marks.specs.Reset.{unmarked}
 use Rattle.marks.specs.declared.Actor.the-variants.{Nobody, Acting}
+use Rattle.device.specs.Updates.{withMarks, withScope, withLock, withSaved, withLastLocal, withCounter, withSets, withNexuses}
 
 -- a locked LOCAL nexus with an instance number saved at lock, that of its last LOCAL set, and its marks and flags all set or all clear
 abbrev locked : ℕ → ℕ → Bool → Nexus
 locked saved lastLocal flag =
-    record { scope = 1; lock = true; saved = saved; lastLocal = lastLocal; marks = record { registered = flag; another = flag; vendor = flag } }
+    withScope 1 (withLock true (withSaved saved (withLastLocal lastLocal (withMarks (record { registered = flag; another = flag; vendor = flag }) newNexus))))
 
 -- scope, lock and both numbers stay, and the mark and both flags are cleared
 pub one-is-cleared : unmarked (locked 7 9 true) ≡ locked 7 9 false
@@ -31,7 +32,7 @@ all-are-cleared = refl
 -- a nexus with its scope, its mark and its two flags
 abbrev nexus : ℕ → Bool → Bool → Bool → Nexus
 nexus scope registered another vendor =
-    record { scope = scope; lock = false; saved = 0; lastLocal = 0; marks = record { registered = registered; another = another; vendor = vendor } }
+    withScope scope (withLock false (withSaved 0 (withLastLocal 0 (withMarks (record { registered = registered; another = another; vendor = vendor }) newNexus))))
 
 -- nexus 1's LOCAL set and nexus 3's ALL set
 abbrev ownSet : Set
@@ -42,15 +43,15 @@ sharedSet = established 3 2 5 (emptySet 0 .fields)
 
 -- place 0 is empty and nexus 1 owns the LOCAL set of place 1
 abbrev before : List Nexus → State
-before nexuses = record { counter = 4; sets = emptySet 0 ∷ ownSet ∷ []; nexuses = nexuses }
+before nexuses = withCounter 4 (withSets (emptySet 0 ∷ ownSet ∷ []) (withNexuses nexuses (powerOn 0 0)))
 
 -- nexus 3 has established place 0
 abbrev shared : List Nexus → State
-shared nexuses = record { counter = 5; sets = sharedSet ∷ ownSet ∷ []; nexuses = nexuses }
+shared nexuses = withCounter 5 (withSets (sharedSet ∷ ownSet ∷ []) (withNexuses nexuses (powerOn 0 0)))
 
 -- place 1 is released
 abbrev released : List Nexus → State
-released nexuses = record { counter = 5; sets = emptySet 0 ∷ emptySet 5 ∷ []; nexuses = nexuses }
+released nexuses = withCounter 5 (withSets (emptySet 0 ∷ emptySet 5 ∷ []) (withNexuses nexuses (powerOn 0 0)))
 
 -- nexuses 0 and 4 are PUBLIC and registered, 4 with a flag pending; 1 is LOCAL and registered; 2 is PUBLIC and not registered
 abbrev five : List Nexus

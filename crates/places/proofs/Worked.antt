@@ -7,8 +7,9 @@ use Rattle.kad.specs.Kad.{noKads}
 use Rattle.parameters.specs.Codes.{publicScope, localScope, allScope}
 use Rattle.parameters.specs.Fields.{keySize, onlyKey, noFields}
 use Rattle.parameters.specs.declared.Fields.{Fields}
+use Rattle.device.specs.Updates.{withMarks, withScope, withLock, withSaved, withLastLocal}
 use Rattle.page.specs.declared.Page.{Page}
-use Rattle.device.specs.Record.{State, powerOn, setAt, nexusAt, emptySet, noMarks}
+use Rattle.device.specs.Record.{State, powerOn, setAt, nexusAt, emptySet, noMarks, newNexus}
 use Rattle.device.specs.Selecting.{ownedPlace, selected}
 use Rattle.places.specs.Actions.{drawn, act, acts, releases, ownPlace, room, pageActions, senderAfter, supplemented, taken, releasedBy}
 use Rattle.places.specs.declared.Event.{Event}
@@ -89,12 +90,12 @@ abbrev opened : State
 opened = taken held 3 toPublic
 
 -- the number saved is the one that the page drew
-saved-after-draw : (held .counter ≡ 1) × (setAt held 1 .number ≡ 1) × (nexusAt held 3 ≡ record { scope = localScope; lock = true; saved = 1; lastLocal = 1; marks = noMarks })
+saved-after-draw : (held .counter ≡ 1) × (setAt held 1 .number ≡ 1) × (nexusAt held 3 ≡ withScope localScope (withLock true (withSaved 1 (withLastLocal 1 (withMarks noMarks newNexus)))))
 unfolding powerOn selected ownedPlace act acts releases ownPlace room pageActions senderAfter supplemented taken
 saved-after-draw = (refl, refl, refl)
 
 -- "with LOCK 0 the saved number stays. LOCAL saves its last-LOCAL number."
-saved-stays : nexusAt (taken held 3 (plain localScope)) 3 ≡ record { scope = localScope; lock = false; saved = 1; lastLocal = 2; marks = noMarks }
+saved-stays : nexusAt (taken held 3 (plain localScope)) 3 ≡ withScope localScope (withLock false (withSaved 1 (withLastLocal 2 (withMarks noMarks newNexus))))
 unfolding powerOn selected ownedPlace act acts releases ownPlace room pageActions senderAfter supplemented taken
 saved-stays = refl
 
@@ -132,7 +133,7 @@ unfolding powerOn selected ownedPlace act acts releases ownPlace room pageAction
 all-releases-own = (refl, refl, refl)
 
 -- a release empties the place; the nexus becomes PUBLIC, and its lock and saved numbers stay
-lock-stays : (setAt (after Demount held) 1 ≡ emptySet 2) × (nexusAt (after Demount held) 3 ≡ record { scope = publicScope; lock = true; saved = 1; lastLocal = 1; marks = noMarks })
+lock-stays : (setAt (after Demount held) 1 ≡ emptySet 2) × (nexusAt (after Demount held) 3 ≡ withScope publicScope (withLock true (withSaved 1 (withLastLocal 1 (withMarks noMarks newNexus)))))
 unfolding powerOn selected ownedPlace act acts releases ownPlace room pageActions senderAfter supplemented taken
 lock-stays = (refl, refl)
 

@@ -15,6 +15,8 @@ pub use Rattle.wire_code.proofs.Settled.{first-not-zero-settles as wire-code-fi
 pub use Rattle.wire_code.proofs.Settled.{all-zero-settles as wire-code-all-zero-settles}
 pub use Rattle.wire_code.proofs.Settled.{zero-from-settles as wire-code-zero-from-settles}
 pub use Rattle.wire_code.proofs.Settled.{is-length-wrong-settles as wire-code-is-length-wrong-settles}
+pub use Rattle.wire_code.proofs.Settled.{number-at-settles as wire-code-number-at-settles}
+pub use Rattle.wire_code.proofs.Settled.{is-same-settles as wire-code-is-same-settles}
 -- crate answer_code
 pub use Rattle.answer_code.proofs.Settled.{row-of-settles as answer-code-row-of-settles}
 pub use Rattle.answer_code.proofs.Settled.{sense-of-settles as answer-code-sense-of-settles}
@@ -78,13 +80,11 @@ pub use Rattle.drive_code.proofs.Settled.{actor-of-settles as drive-code-actor-
 pub use Rattle.record_code.proofs.Settled.{kads-bytes-settles as record-code-kads-bytes-settles}
 pub use Rattle.record_code.proofs.Settled.{set-bytes-settles as record-code-set-bytes-settles}
 pub use Rattle.record_code.proofs.Settled.{nexus-bytes-settles as record-code-nexus-bytes-settles}
-pub use Rattle.record_code.proofs.Settled.{number-at-settles as record-code-number-at-settles}
 pub use Rattle.record_code.proofs.Settled.{kads-read-settles as record-code-kads-read-settles}
 pub use Rattle.record_code.proofs.Settled.{set-read-settles as record-code-set-read-settles}
 pub use Rattle.record_code.proofs.Settled.{nexus-read-settles as record-code-nexus-read-settles}
 pub use Rattle.record_code.proofs.Settled.{set-at-settles as record-code-set-at-settles}
 pub use Rattle.record_code.proofs.Settled.{nexus-at-settles as record-code-nexus-at-settles}
-pub use Rattle.record_code.proofs.Settled.{is-same-settles as record-code-is-same-settles}
 -- crate command_code
 pub use Rattle.command_code.proofs.Settled.{request-of-settles as command-code-request-of-settles}
 pub use Rattle.command_code.proofs.Settled.{has-data-settles as command-code-has-data-settles}

@@ -16,9 +16,9 @@ pub use Rattle.page.proofs.Lowest.{wrong-is-lowest, done-breaks-none, fifth-bre
 -- The same of the status reader: the faulty byte of answer 8 is the lowest at which a rule of the page breaks, and of a page that is read
 -- none breaks.
 pub use Rattle.status.proofs.Lowest.{status-lowest}
--- A status page written and read back shows the same values; one that our reader accepts, written again, has the same bytes; what is
--- written for a well-formed record is accepted.
-pub use Rattle.status.proofs.RoundTrip.{read-of-written as status-read-of-written, written-of-read as status-written-of-read, well-formed-accepted, well-formed-read}
+-- A status page written and read back shows the same values; one that our reader accepts, written again, has the same bytes, and
+-- its values are in range; what is written for a well-formed record is accepted.
+pub use Rattle.status.proofs.RoundTrip.{read-of-written as status-read-of-written, written-of-read as status-written-of-read, read-in-range, well-formed-accepted, well-formed-read}
 -- A record written as bytes and read is the same; bytes that are taken for a record, written again, are the same bytes; and those are
 -- the bytes of the right length whose yes/no bytes are 0 or 1.
 pub use Rattle.record.proofs.RoundTrip.{read-of-written as record-read-of-written, written-of-taken as record-written-of-taken}
@@ -29,6 +29,8 @@ pub use Rattle.drive.proofs.Table.{table, proved, further, further-proved}
 pub use Rattle.drive.proofs.Same.{same-record}
 -- A reply's head tells its number, its sense and how many bytes of data follow.
 pub use Rattle.command.proofs.Replies.{head-number, head-sense, head-length}
+-- A kind that has data is the kind of a known command, so data are never read for an unknown one.
+pub use Rattle.command.proofs.Requests.{out-order, read-order, take-order}
 -- The stored session of the stream, further commands and records taken and given: what is replied is what is printed there.
 pub use Rattle.command.proofs.Worked.{session-proved, further-proved as stream-further-proved, records-proved}
 -- Every call of a well-formed record leaves a well-formed record; power-on gives one; so since power-on answer 1 is never due.

@@ -8,13 +8,14 @@ use native.Mathlib.Omega.{arith}
 use lib.ListN.{length, take, drop, length-drop}
 use lib.Seq.{drop-drop, take-add}
 use Rattle.arrays.proofs.Base.{and-left, and-right}
-use Rattle.wire.specs.Numbers.{byteAt, numberAt, four}
+use Rattle.wire.specs.Numbers.{byteAt, numberAt, four, yesOrNo}
 use Rattle.kad.specs.Kad.{uMost, aMost}
 use Rattle.parameters.specs.Fields.{keySize, supplementalSize}
 use Rattle.record.specs.Bytes.{kadsSize, setSize, nexusSize, kadsBytes, setHead, setBytes, nexusBytes}
-use Rattle.record.specs.Reading.{bytesAt, kadsRead, fieldsRead, setRead, nexusRead}
-use Rattle.record.specs.Good.{yesOrNo, setYesOrNo, nexusYesOrNo}
-use Rattle.record.proofs.Bytes.{Below, padded-first, run, take-run, flag-again, four-again}
+use Rattle.wire.specs.Buffers.{bytesAt}
+use Rattle.record.specs.Reading.{kadsRead, fieldsRead, setRead, nexusRead}
+use Rattle.record.specs.Good.{setYesOrNo, nexusYesOrNo}
+use Rattle.wire.proofs.Bytes.{Below, padded-first, run, take-run, flag-again, four-again}
 
 -- n bytes from an index on, where they are there, and what follows
 pub then : (part : List ℕ) (at n more : ℕ) → at + n ≤ length part → take (n + more) (drop at part) ≡ bytesAt n part at ++ take more (drop (at + n) part)

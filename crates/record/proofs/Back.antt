@@ -16,7 +16,7 @@ use Rattle.device.specs.declared.Nexus.{Nexus}
 use Rattle.record.specs.Bytes.{kadsBytes, setHead, setBytes, nexusBytes}
 use Rattle.record.specs.Reading.{kadsRead, fieldsRead, setRead, nexusRead}
 use Rattle.record.specs.Good.{SetFits, NexusFits}
-use Rattle.record.proofs.Bytes.{padded-at, drop-past, flag-back}
+use Rattle.wire.proofs.Bytes.{padded-at, drop-past, flag-back}
 
 -- ---- key-associated data
 

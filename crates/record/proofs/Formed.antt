@@ -11,7 +11,7 @@ use lib.ListN.{length, take, drop, length-drop}
 use lib.Seq.{drop-at, drop-drop, take-add, take-all}
 use Rattle.arrays.specs.Arrays.{all}
 use Rattle.arrays.proofs.Base.{both, and-left, and-right, same-truth}
-use Rattle.wire.specs.Numbers.{numberAt, four}
+use Rattle.wire.specs.Numbers.{numberAt, four, areBytes}
 use Rattle.wire.proofs.Numbers.{number-below}
 use Rattle.wire.proofs.Stores.{length-padded}
 use Rattle.kad.specs.Kad.{uMost, aMost}
@@ -19,12 +19,12 @@ use Rattle.parameters.specs.Fields.{keySize, supplementalSize}
 use Rattle.device.specs.Record.{State}
 use Rattle.device.specs.declared.Set.{Set}
 use Rattle.device.specs.declared.Nexus.{Nexus}
-use Rattle.record.specs.Parts.{joined, parts}
+use Rattle.wire.specs.Parts.{joined, parts, Each}
 use Rattle.record.specs.Bytes.{counterSize, setSize, nexusSize, nexusesFrom, recordSize, setBytes, nexusBytes, recordBytes}
 use Rattle.record.specs.Reading.{kadsRead, fieldsRead, setRead, nexusRead, recordRead}
-use Rattle.record.specs.Good.{goodBytes, setYesOrNo, nexusYesOrNo, formed, areBytes, SetFits, NexusFits, Each, Fits}
-use Rattle.record.proofs.Bytes.{Below, below, below-drop, flag-low, four-again, take-run}
-use Rattle.record.proofs.Parts.{length-parts, each-read, each-part, parts-pass, joined-read}
+use Rattle.record.specs.Good.{goodBytes, setYesOrNo, nexusYesOrNo, formed, SetFits, NexusFits, Fits}
+use Rattle.wire.proofs.Bytes.{Below, below, below-drop, flag-low, four-again, take-run}
+use Rattle.wire.proofs.Parts.{length-parts, each-read, each-part, parts-pass, joined-read}
 use Rattle.record.proofs.Sizes.{set-length, nexus-length, sets-length, record-length}
 use Rattle.record.proofs.Again.{set-again, nexus-again}
 use Rattle.record.proofs.RoundTrip.{same-self, written-of-read}

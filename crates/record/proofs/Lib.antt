@@ -1,8 +1,5 @@
-pub mod Filling
-pub mod Parts
 pub mod Sizes
 pub mod Storing
-pub mod Bytes
 pub mod Back
 pub mod Again
 pub mod RoundTrip

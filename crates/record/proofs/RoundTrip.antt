@@ -16,11 +16,12 @@ use Rattle.wire.proofs.Numbers.{number-four}
 use Rattle.device.specs.Record.{State, powerOn}
 use Rattle.device.specs.declared.Set.{Set}
 use Rattle.device.specs.declared.Nexus.{Nexus}
-use Rattle.record.specs.Parts.{joined, parts}
+use Rattle.wire.specs.Buffers.{sameBytes}
+use Rattle.wire.specs.Parts.{joined, parts, Each}
 use Rattle.record.specs.Bytes.{setSize, nexusSize, nexusesFrom, setBytes, nexusBytes, recordBytes}
 use Rattle.record.specs.Reading.{setRead, nexusRead, recordRead}
-use Rattle.record.specs.Good.{sameBytes, goodBytes, recordTaken, SetFits, NexusFits, Each, Fits}
-use Rattle.record.proofs.Parts.{GivenBack, read-joined}
+use Rattle.record.specs.Good.{goodBytes, recordTaken, SetFits, NexusFits, Fits}
+use Rattle.wire.proofs.Parts.{GivenBack, read-joined}
 use Rattle.record.proofs.Sizes.{set-length, nexus-length, sets-length}
 use Rattle.record.proofs.Back.{set-back, nexus-back}
 

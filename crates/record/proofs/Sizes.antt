@@ -10,10 +10,10 @@ use Rattle.kad.specs.declared.Kads.{Kads}
 use Rattle.device.specs.Record.{State}
 use Rattle.device.specs.declared.Set.{Set}
 use Rattle.device.specs.declared.Nexus.{Nexus}
-use Rattle.record.specs.Parts.{joined}
+use Rattle.wire.specs.Parts.{joined, Each}
 use Rattle.record.specs.Bytes.{kadsSize, setSize, nexusSize, recordSize, kadsBytes, setBytes, nexusBytes, recordBytes}
-use Rattle.record.specs.Good.{SetFits, Each, Fits}
-use Rattle.record.proofs.Parts.{joined-length}
+use Rattle.record.specs.Good.{SetFits, Fits}
+use Rattle.wire.proofs.Parts.{joined-length}
 
 pub kads-length : (k : Kads) → Sized k → length (kadsBytes k) ≡ kadsSize
 unfolding kadsBytes

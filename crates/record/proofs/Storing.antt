@@ -11,7 +11,7 @@ use Rattle.kad.specs.declared.Kads.{Kads}
 use Rattle.parameters.specs.Fields.{keySize, supplementalSize}
 use Rattle.device.specs.declared.Set.{Set}
 use Rattle.record.specs.Bytes.{kadsSize, setSize, kadsBytes, setHead, setBytes}
-use Rattle.record.proofs.Filling.{fill-starts, fill-more, fill-ends}
+use Rattle.wire.proofs.Filling.{fill-starts, fill-more, fill-ends}
 use Rattle.record.proofs.Sizes.{kads-length}
 
 -- four runs over a buffer that holds just them

@@ -7,10 +7,11 @@ use lib.ListN.{length, set, take, replicate}
 use Rattle.arrays.specs.Arrays.{all}
 use Rattle.kad.specs.Kad.{kadsOf}
 use Rattle.kad.specs.declared.Kads.{Kads}
-use Rattle.device.specs.Record.{State, emptySet, newNexus, powerOn}
+use Rattle.device.specs.Updates.{withMarks, withScope, withLock, withSaved, withLastLocal, withSupplemental, withCounter, withSets, withNexuses}
+use Rattle.device.specs.Record.{State, emptySet, newNexus, powerOn, established}
 use Rattle.device.specs.declared.Set.{Set}
 use Rattle.device.specs.declared.Nexus.{Nexus}
-use Rattle.record.specs.Parts.{joined, parts}
+use Rattle.wire.specs.Parts.{joined, parts}
 use Rattle.record.specs.Bytes.{kadsBytes, setBytes, nexusBytes, recordBytes, recordSize}
 use Rattle.record.specs.Reading.{kadsRead, fieldsRead, setRead, nexusRead, recordRead}
 use Rattle.record.specs.Good.{goodBytes, recordTaken, formed, setYesOrNo, nexusYesOrNo}
@@ -20,27 +21,21 @@ kads = kadsOf (replicate 32 30) (31 ∷ [])
 
 -- each byte of it another
 abbrev someSet : Set
-someSet = record {
-  owner = 1;
-  scope = 2;
-  number = 0x06070809;
-  fields = record {
-    encryption = 3;
-    decryption = 4;
-    index = 5;
-    ceem = 10;
-    rdmd = true;
-    ckod = false;
-    ckorp = true;
-    ckorl = true;
-    key = replicate 32 15;
-    kads = kads;
-  };
-  supplemental = record { count = 47; keys = replicate 128 48 };
-}
+someSet = withSupplemental (record { count = 47; keys = replicate 128 48 }) (established 1 2 0x06070809 (record {
+  encryption = 3;
+  decryption = 4;
+  index = 5;
+  ceem = 10;
+  rdmd = true;
+  ckod = false;
+  ckorp = true;
+  ckorl = true;
+  key = replicate 32 15;
+  kads = kads;
+}))
 
 abbrev someNexus : Nexus
-someNexus = record { scope = 1; lock = true; saved = 0x03040506; lastLocal = 0x0708090A; marks = record { registered = true; another = false; vendor = true } }
+someNexus = withScope 1 (withLock true (withSaved 0x03040506 (withLastLocal 0x0708090A (withMarks (record { registered = true; another = false; vendor = true }) newNexus))))
 
 -- the bytes of a set, in the order of the table
 of-set : setBytes someSet
@@ -54,7 +49,7 @@ unfolding nexusBytes
 of-nexus = refl
 
 abbrev some : State
-some = record { counter = 0x01020304; sets = emptySet 9 ∷ someSet ∷ []; nexuses = newNexus ∷ someNexus ∷ [] }
+some = withCounter 0x01020304 (withSets (emptySet 9 ∷ someSet ∷ []) (withNexuses (newNexus ∷ someNexus ∷ []) (powerOn 0 0)))
 
 abbrev bytes : List ℕ
 bytes = recordBytes some

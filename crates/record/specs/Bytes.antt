@@ -7,7 +7,7 @@ use Rattle.kad.specs.declared.Kads.{Kads}
 use Rattle.device.specs.Record.{State}
 use Rattle.device.specs.declared.Set.{Set}
 use Rattle.device.specs.declared.Nexus.{Nexus}
-use Rattle.record.specs.Parts.{joined}
+use Rattle.wire.specs.Parts.{joined}
 
 -- the bytes of the counter, of key-associated data, of a set, of a nexus
 abbrev pub counterSize : ℕ

@@ -2,24 +2,21 @@
 use Prim.Native.Nat.{ℕ, _^_, _<_}
 use mathlib.Core.Path.{_≡_}
 use mathlib.Core.Bool.{Bool, _&&_}
-use mathlib.Core.List.{List, [], _∷_}
-use lib.Dec.{leb, ltb, eqb}
+use mathlib.Core.List.{List}
+use lib.Dec.{eqb}
 use lib.ListN.{length, drop}
 use Rattle.arrays.specs.Base.{if_then_else_}
-use Rattle.arrays.specs.Arrays.{each, all}
-use Rattle.wire.specs.Numbers.{byteAt}
+use Rattle.arrays.specs.Arrays.{all}
+use Rattle.wire.specs.Numbers.{yesOrNo}
+use Rattle.wire.specs.Buffers.{sameBytes}
 use Rattle.kad.specs.Kad.{Sized}
 use Rattle.parameters.specs.Fields.{keySize, supplementalSize}
 use Rattle.device.specs.Record.{State, powerOn}
 use Rattle.device.specs.declared.Set.{Set}
 use Rattle.device.specs.declared.Nexus.{Nexus}
-use Rattle.record.specs.Parts.{parts}
+use Rattle.wire.specs.Parts.{parts, Each}
 use Rattle.record.specs.Bytes.{counterSize, setSize, nexusSize, nexusesFrom, recordSize, recordBytes}
 use Rattle.record.specs.Reading.{recordRead}
-
--- as many bytes, and each the same
-abbrev pub sameBytes : List ℕ → List ℕ → Bool
-sameBytes a b = eqb (length a) (length b) && each (λ i x. eqb x (byteAt b i)) a
 
 unfoldable pub goodBytes : (nexuses places : ℕ) → List ℕ → Bool
 goodBytes nexuses places bytes = sameBytes bytes (recordBytes (recordRead nexuses places bytes))
@@ -29,9 +26,6 @@ unfoldable pub recordTaken : (nexuses places : ℕ) → List ℕ → State
 recordTaken nexuses places bytes = if goodBytes nexuses places bytes then recordRead nexuses places bytes else powerOn nexuses places
 
 -- ---- the same, said of the bytes themselves: "any .. bytes whose yes/no bytes are 0 or 1"
-
-abbrev pub yesOrNo : List ℕ → ℕ → Bool
-yesOrNo part at = leb (byteAt part at) 1
 
 -- RDMD, CKOD, CKORP, CKORL
 unfoldable pub setYesOrNo : List ℕ → Bool
@@ -48,10 +42,6 @@ formed nexuses places bytes =
     && all (λ ok. ok) (parts setYesOrNo setSize places (drop counterSize bytes))
     && all (λ ok. ok) (parts nexusYesOrNo nexusSize nexuses (drop (nexusesFrom places) bytes))
 
--- bytes are below 256
-abbrev pub areBytes : List ℕ → Bool
-areBytes = all (λ b. ltb b 256)
-
 -- ---- a record that its bytes hold: numbers of 32 bits, arrays of their sizes
 
 pub record SetFits (s : Set) : Type 0 where
@@ -63,11 +53,6 @@ pub record SetFits (s : Set) : Type 0 where
 pub record NexusFits (x : Nexus) : Type 0 where
   pub saved : x .saved < 2 ^ 32
   pub lastLocal : x .lastLocal < 2 ^ 32
-
--- each element has it
-abbrev pub Each : {A : Type 0} → (A → Type 0) → List A → Type 0
-Each P [] = Unit
-Each P (x ∷ xs) = P x × Each P xs
 
 pub record Fits (nexuses places : ℕ) (s : State) : Type 0 where
   pub counter : s .counter < 2 ^ 32

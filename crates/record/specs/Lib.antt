@@ -1,4 +1,3 @@
-pub mod Parts
 pub mod Bytes
 pub mod Reading
 pub mod Good

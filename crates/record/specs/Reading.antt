@@ -1,12 +1,10 @@
 -- docs/CONSOLE.md, "The record": what bytes give. The numbers here are the tables' column "at". A byte past the end reads as 0, and a
 -- byte that tells yes or no is a yes where it is 1.
 use Prim.Native.Nat.{ℕ}
-use mathlib.Core.Bool.{Bool}
 use mathlib.Core.List.{List}
-use lib.Dec.{eqb}
 use lib.ListN.{drop}
-use Rattle.wire.specs.Numbers.{byteAt, numberAt}
-use Rattle.wire.specs.Buffers.{padded}
+use Rattle.wire.specs.Numbers.{byteAt, numberAt, flagAt}
+use Rattle.wire.specs.Buffers.{bytesAt}
 use Rattle.kad.specs.Kad.{uMost, aMost}
 use Rattle.kad.specs.declared.Kads.{Kads}
 use Rattle.parameters.specs.Fields.{keySize, supplementalSize}
@@ -14,15 +12,8 @@ use Rattle.parameters.specs.declared.Fields.{Fields}
 use Rattle.device.specs.Record.{State}
 use Rattle.device.specs.declared.Set.{Set}
 use Rattle.device.specs.declared.Nexus.{Nexus}
-use Rattle.record.specs.Parts.{parts}
+use Rattle.wire.specs.Parts.{parts}
 use Rattle.record.specs.Bytes.{counterSize, setSize, nexusSize, nexusesFrom}
-
-abbrev pub flagAt : List ℕ → ℕ → Bool
-flagAt part at = eqb (byteAt part at) 1
-
--- n bytes from an index on
-abbrev pub bytesAt : ℕ → List ℕ → ℕ → List ℕ
-bytesAt n part at = padded n (drop at part)
 
 -- the key-associated data in a part's first 46 bytes
 unfoldable pub kadsRead : List ℕ → Kads

@@ -7,7 +7,8 @@ use mathlib.Core.List.{List}
 use Rattle.device.specs.Record.{powerOn}
 use Rattle.record.specs.Bytes.{recordBytes}
 use Rattle.record.specs.Reading.{recordRead}
-use Rattle.record.specs.Good.{sameBytes, goodBytes, recordTaken}
+use Rattle.wire.specs.Buffers.{sameBytes}
+use Rattle.record.specs.Good.{goodBytes, recordTaken}
 use Rattle.record.proofs.RoundTrip.{refused}
 use Rattle.sizes_16.specs.Sizes.{nexusCount, placeCount}
 use Rattle.device_16.specs.Model.{state, device}

@@ -13,7 +13,8 @@ use Rattle.device.specs.declared.Set.{Set}
 use Rattle.device.specs.declared.Nexus.{Nexus}
 use Rattle.device.proofs.Set as set
 use Rattle.device.proofs.Nexus as nexus
-use Rattle.record.specs.Good.{SetFits, NexusFits, Each, Fits}
+use Rattle.wire.specs.Parts.{Each}
+use Rattle.record.specs.Good.{SetFits, NexusFits, Fits}
 use Rattle.sizes_16.specs.Sizes.{nexusCount, placeCount}
 use Rattle.device_16.specs.Model.{state}
 use Rattle.record_16.proofs.record_bytes.Kinds as kinds

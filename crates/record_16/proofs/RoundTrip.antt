@@ -9,7 +9,8 @@ use denote.Triple.Clauses.{AtExit}
 use borrow.Fn.Kinds.{Dens, GoodsP, endedOf, resT}
 use Rattle.device.specs.Record.{State, powerOn}
 use Rattle.record.specs.Bytes.{recordBytes}
-use Rattle.record.specs.Good.{goodBytes, recordTaken, formed, areBytes, Fits}
+use Rattle.wire.specs.Numbers.{areBytes}
+use Rattle.record.specs.Good.{goodBytes, recordTaken, formed, Fits}
 use Rattle.record.proofs.RoundTrip.{written-is-good, taken-of-written, written-of-taken, refused}
 use Rattle.record.proofs.Formed.{good-is-formed}
 use Rattle.sizes_16.specs.Sizes.{nexusCount, placeCount}

@@ -10,7 +10,7 @@ ghost use mathlib.Core.Path.{_≡_};
 ghost use Prim.Native.Nat.{_*_};
 ghost use lib.ListN.{length, drop};
 ghost use lib.Seq.{sets};
-ghost use Rattle.record.specs.Parts.{joined, parts};
+ghost use Rattle.wire.specs.Parts.{joined, parts};
 ghost use Rattle.record.specs.Bytes.{counterSize, setSize, nexusSize, nexusesFrom, setBytes, nexusBytes, recordBytes};
 ghost use Rattle.record.specs.Reading.{setRead, nexusRead, recordRead};
 ghost use Rattle.sizes_16.specs.Sizes.{nexusCount, placeCount};
@@ -90,7 +90,7 @@ fn device_of(bytes: &[u8]) -> Device
     let sets = sets_of(bytes);
     let nexuses = nexuses_of(bytes);
     Device {
-        counter: record_code::number_at(bytes, 0),
+        counter: wire_code::number_at(bytes, 0),
         sets,
         nexuses,
     }
@@ -102,7 +102,7 @@ pub fn load(bytes: &[u8]) -> Loaded
 {
     let device = device_of(bytes);
     let again = record_bytes(device);
-    if record_code::is_same(bytes, &again) {
+    if wire_code::is_same(bytes, &again) {
         return Loaded { good: true, device };
     }
     let new = device_16::power_on();

@@ -6,8 +6,6 @@ use Rattle.record_code.proofs.set_bytes.Reads as set-bytes
 use Rattle.record_code.proofs.set_bytes.Kinds as set-bytes-kinds
 use Rattle.record_code.proofs.nexus_bytes.Reads as nexus-bytes
 use Rattle.record_code.proofs.nexus_bytes.Kinds as nexus-bytes-kinds
-use Rattle.record_code.proofs.number_at.Reads as number-at
-use Rattle.record_code.proofs.number_at.Kinds as number-at-kinds
 use Rattle.record_code.proofs.kads_read.Reads as kads-read
 use Rattle.record_code.proofs.kads_read.Kinds as kads-read-kinds
 use Rattle.record_code.proofs.set_read.Reads as set-read
@@ -18,8 +16,6 @@ use Rattle.record_code.proofs.set_at.Reads as set-at
 use Rattle.record_code.proofs.set_at.Kinds as set-at-kinds
 use Rattle.record_code.proofs.nexus_at.Reads as nexus-at
 use Rattle.record_code.proofs.nexus_at.Kinds as nexus-at-kinds
-use Rattle.record_code.proofs.is_same.Reads as is-same
-use Rattle.record_code.proofs.is_same.Kinds as is-same-kinds
 
 pub kads-bytes-settles : SettlesAnswer 0 kads-bytes-kinds.ps kads-bytes-kinds.r kads-bytes.Post
 kads-bytes-settles κs a x y s t p q = same p q
@@ -29,9 +25,6 @@ set-bytes-settles κs a x y s t p q = same p q
 
 pub nexus-bytes-settles : SettlesAnswer 0 nexus-bytes-kinds.ps nexus-bytes-kinds.r nexus-bytes.Post
 nexus-bytes-settles κs a x y s t p q = same p q
-
-pub number-at-settles : SettlesAnswer 1 number-at-kinds.ps number-at-kinds.r number-at.Post
-number-at-settles κs a x y s t p q = same p q
 
 pub kads-read-settles : SettlesAnswer 1 kads-read-kinds.ps kads-read-kinds.r kads-read.Post
 kads-read-settles κs a x y s t p q = same p q
@@ -47,6 +40,3 @@ set-at-settles κs a x y s t p q = same p q
 
 pub nexus-at-settles : SettlesAnswer 1 nexus-at-kinds.ps nexus-at-kinds.r nexus-at.Post
 nexus-at-settles κs a x y s t p q = same p q
-
-pub is-same-settles : SettlesAnswer 2 is-same-kinds.ps is-same-kinds.r is-same.Post
-is-same-settles κs a x y s t p q = same p q

@@ -10,10 +10,10 @@ use parameters::Supplemental;
 ghost use mathlib.Core.Path.{_≡_};
 ghost use mathlib.Core.List.{_∷_};
 ghost use lib.ListN.{drop};
-ghost use Rattle.wire.specs.Numbers.{numberAt};
+ghost use Rattle.wire.specs.Numbers.{flagAt};
 ghost use Rattle.record.specs.Bytes.{kadsBytes, setHead, setBytes, nexusBytes};
-ghost use Rattle.record.specs.Reading.{flagAt, bytesAt, kadsRead, fieldsRead, setRead, nexusRead};
-ghost use Rattle.record.specs.Good.{sameBytes};
+ghost use Rattle.wire.specs.Buffers.{bytesAt};
+ghost use Rattle.record.specs.Reading.{kadsRead, fieldsRead, setRead, nexusRead};
 
 pub const KADS_SIZE: usize = 46;
 
@@ -118,21 +118,7 @@ pub fn nexus_bytes(nexus: Nexus) -> [u8; NEXUS_SIZE]
     ]
 }
 
-// The number in the four bytes at an index; here and below, a byte past the end is 0.
-pub fn number_at(part: &[u8], at: usize) -> u32
-    ensures { λ r. ⌜ r ≡ numberAt (now (part .entry)) at ⌝ }
-{
-    if at < part.len() {
-        return wire_code::number(
-            part[at],
-            wire_code::byte_at(part, at + 1),
-            wire_code::byte_at(part, at + 2),
-            wire_code::byte_at(part, at + 3),
-        );
-    }
-    0
-}
-
+// Here and below, a byte past the end is 0.
 fn flag_at(part: &[u8], at: usize) -> bool
     ensures { λ r. ⌜ r ≡ flagAt (now (part .entry)) at ⌝ }
 {
@@ -223,7 +209,7 @@ pub fn set_read(part: &[u8]) -> Set
     Set {
         owner: wire_code::byte_at(part, 0),
         scope: wire_code::byte_at(part, 1),
-        number: number_at(part, 5),
+        number: wire_code::number_at(part, 5),
         fields,
         supplemental: Supplemental {
             count: wire_code::byte_at(part, KEYS_FROM),
@@ -239,8 +225,8 @@ pub fn nexus_read(part: &[u8]) -> Nexus
     Nexus {
         scope: wire_code::byte_at(part, 0),
         lock: flag_at(part, 1),
-        saved: number_at(part, 2),
-        lastLocal: number_at(part, 6),
+        saved: wire_code::number_at(part, 2),
+        lastLocal: wire_code::number_at(part, 6),
         marks: Marks {
             registered: flag_at(part, 10),
             another: flag_at(part, 11),
@@ -267,19 +253,4 @@ pub fn nexus_at(bytes: &[u8], at: usize) -> Nexus
         return nexus_read(&bytes[at..]);
     }
     Nexus::NEW
-}
-
-// As many bytes, and each the same.
-pub fn is_same(a: &[u8], b: &[u8]) -> bool
-    ensures { λ r. ⌜ r ≡ sameBytes (now (a .entry)) (now (b .entry)) ⌝ }
-{
-    if a.len() != b.len() {
-        return false;
-    }
-    for i in 0..a.len() {
-        if a[i] != b[i] {
-            return false;
-        }
-    }
-    true
 }

@@ -14,6 +14,7 @@ use Rattle.kad.specs.declared.Kads.{Kads}
 use Rattle.parameters.specs.Fields.{keySize}
 use Rattle.parameters.specs.declared.Fields.{Fields}
 use Rattle.parameters.specs.Codes.{localScope}
+use Rattle.device.specs.Updates.{withMarks, withScope, withLock, withSaved, withLastLocal, withCounter, withSets, withNexuses}
 use Rattle.device.specs.Record.{State, established, emptySet, noMarks, newNexus, powerOn}
 use Rattle.device.specs.Selecting.{ownedPlace, selected}
 use Rattle.device.specs.declared.Nexus.{Nexus}
@@ -112,15 +113,11 @@ fields kads = record {
 }
 
 abbrev local : Nexus
-local = record { scope = localScope; lock = true; saved = 1; lastLocal = 1; marks = noMarks }
+local = withScope localScope (withLock true (withSaved 1 (withLastLocal 1 (withMarks noMarks newNexus))))
 
 -- "nexus 3 sends K: place 1, number 1"
 abbrev state : ℕ → Kads → State
-state number kads = record {
-  counter = number;
-  sets = set (replicate 5 (emptySet 0)) 1 (established 3 localScope number (fields kads));
-  nexuses = set (replicate 16 newNexus) 3 local;
-}
+state number kads = withCounter number (withSets (set (replicate 5 (emptySet 0)) 1 (established 3 localScope number (fields kads))) (withNexuses (set (replicate 16 newNexus) 3 local) (powerOn 0 0)))
 
 abbrev status : ℕ → Kads → Status
 status number kads = record {

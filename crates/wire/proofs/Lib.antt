@@ -2,6 +2,9 @@ pub mod Numbers
 pub mod Bits
 pub mod Zeros
 pub mod Stores
+pub mod Filling
+pub mod Bytes
+pub mod Parts
 pub mod Rules
 pub mod Lowest
 pub mod Worked

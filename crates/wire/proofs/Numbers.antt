@@ -41,3 +41,10 @@ four-number a b c d h i j k =
     let r : n / 256 % 256 ≡ c = omega arith in
     let s : n % 256 ≡ d = omega arith in
     rw (p, q, r, s) refl
+
+-- a number's lower 16 bits have its two bytes
+pub two-lower : (n : ℕ) → two (n % 65536) ≡ two n
+two-lower n =
+    let high : n % 65536 / 256 % 256 ≡ n / 256 % 256 = omega arith in
+    let low : n % 65536 % 256 ≡ n % 256 = omega arith in
+    rw (high, low) refl

@@ -2,3 +2,4 @@ pub mod Numbers
 pub mod Bits
 pub mod Buffers
 pub mod Rules
+pub mod Parts

@@ -1,7 +1,10 @@
 -- Numbers are big-endian. A byte past a list's end reads as 0.
 use Prim.Native.Nat.{ℕ, _+_, _*_, _/_, _%_}
+use mathlib.Core.Bool.{Bool}
 use mathlib.Core.List.{List, [], _∷_}
+use lib.Dec.{leb, ltb, eqb}
 use lib.ListN.{getD}
+use Rattle.arrays.specs.Arrays.{all}
 
 abbrev pub byteAt : List ℕ → ℕ → ℕ
 byteAt s i = getD s i 0
@@ -26,3 +29,14 @@ two n = n / 256 % 256 ∷ n % 256 ∷ []
 
 abbrev pub four : ℕ → List ℕ
 four n = n / 16777216 % 256 ∷ n / 65536 % 256 ∷ n / 256 % 256 ∷ n % 256 ∷ []
+
+-- a byte that tells yes or no is a yes where it is 1, and a no where it is 0
+abbrev pub flagAt : List ℕ → ℕ → Bool
+flagAt s i = eqb (byteAt s i) 1
+
+abbrev pub yesOrNo : List ℕ → ℕ → Bool
+yesOrNo s i = leb (byteAt s i) 1
+
+-- bytes are below 256
+abbrev pub areBytes : List ℕ → Bool
+areBytes = all (λ b. ltb b 256)

@@ -32,6 +32,10 @@ use Rattle.wire_code.proofs.zero_from.Reads as zero-from
 use Rattle.wire_code.proofs.zero_from.Kinds as zero-from-kinds
 use Rattle.wire_code.proofs.is_length_wrong.Reads as is-length-wrong
 use Rattle.wire_code.proofs.is_length_wrong.Kinds as is-length-wrong-kinds
+use Rattle.wire_code.proofs.number_at.Reads as number-at
+use Rattle.wire_code.proofs.number_at.Kinds as number-at-kinds
+use Rattle.wire_code.proofs.is_same.Reads as is-same
+use Rattle.wire_code.proofs.is_same.Kinds as is-same-kinds
 
 pub byte-at-settles : SettlesAnswer 1 byte-at-kinds.ps byte-at-kinds.r byte-at.Post
 byte-at-settles κs a x y s t p q = same p q
@@ -74,3 +78,9 @@ zero-from-settles κs a x y s t p q = same p q
 
 pub is-length-wrong-settles : SettlesAnswer 1 is-length-wrong-kinds.ps is-length-wrong-kinds.r is-length-wrong.Post
 is-length-wrong-settles κs a x y s t p q = same p q
+
+pub number-at-settles : SettlesAnswer 1 number-at-kinds.ps number-at-kinds.r number-at.Post
+number-at-settles κs a x y s t p q = same p q
+
+pub is-same-settles : SettlesAnswer 2 is-same-kinds.ps is-same-kinds.r is-same.Post
+is-same-settles κs a x y s t p q = same p q

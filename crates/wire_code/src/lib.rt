@@ -3,8 +3,8 @@ ghost use mathlib.Core.Path.{_≡_};
 ghost use Prim.Native.Nat.{_<_};
 ghost use lib.ListN.{length, drop};
 ghost use lib.Seq.{sets};
-ghost use Rattle.wire.specs.Numbers.{byteAt, word, number, wordAt, two, four};
-ghost use Rattle.wire.specs.Buffers.{Shown, padded, allZero};
+ghost use Rattle.wire.specs.Numbers.{byteAt, word, number, wordAt, numberAt, two, four};
+ghost use Rattle.wire.specs.Buffers.{Shown, padded, allZero, sameBytes};
 ghost use Rattle.wire.specs.Rules.{lengthWrong, breach, zeroRules};
 
 // The byte at an index, 0 past the end.
@@ -37,6 +37,21 @@ pub fn word_at(s: &[u8], at: usize) -> usize
     } else {
         0
     }
+}
+
+// The number in the four bytes at an index, of which those past the end are 0.
+pub fn number_at(part: &[u8], at: usize) -> u32
+    ensures { λ r. ⌜ r ≡ numberAt (now (part .entry)) at ⌝ }
+{
+    if at < part.len() {
+        return number(
+            part[at],
+            byte_at(part, at + 1),
+            byte_at(part, at + 2),
+            byte_at(part, at + 3),
+        );
+    }
+    0
 }
 
 pub fn two(n: u16) -> [u8; 2]
@@ -137,4 +152,19 @@ pub fn is_length_wrong(page: &[u8], least: usize) -> bool
     ensures { λ r. ⌜ r ≡ lengthWrong least (now (page .entry)) ⌝ }
 {
     (page.len() < least) | (word_at(page, 2) + 4 != page.len())
+}
+
+// As many bytes, and each the same.
+pub fn is_same(a: &[u8], b: &[u8]) -> bool
+    ensures { λ r. ⌜ r ≡ sameBytes (now (a .entry)) (now (b .entry)) ⌝ }
+{
+    if a.len() != b.len() {
+        return false;
+    }
+    for i in 0..a.len() {
+        if a[i] != b[i] {
+            return false;
+        }
+    }
+    true
 }

@@ -8,7 +8,7 @@ use Rattle.sizes_16.specs.Sizes.{placeCount, nexusCount}
 use Rattle.device.specs.Record.{newNexus}
 use Rattle.record.specs.Bytes.{nexusesFrom, nexusSize}
 use Rattle.record.specs.Reading.{nexusRead}
-use Rattle.record.proofs.Parts.{parts-made}
+use Rattle.wire.proofs.Parts.{parts-made}
 use Rattle.record_16.proofs.nexuses_of.Statement.{statement}
 use Rattle.record_16.proofs.nexuses_of.Tie as tie
 

@@ -6,9 +6,9 @@ use lib.ListN.{replicate}
 use lib.Seq.{sets}
 use Rattle.wire.specs.Numbers.{four}
 use Rattle.sizes_16.specs.Sizes.{nexusCount, placeCount}
-use Rattle.record.specs.Parts.{joined}
+use Rattle.wire.specs.Parts.{joined}
 use Rattle.record.specs.Bytes.{counterSize, nexusesFrom, recordSize, setBytes, nexusBytes, recordBytes}
-use Rattle.record.proofs.Filling.{fill-starts, fill-more, fill-ends}
+use Rattle.wire.proofs.Filling.{fill-starts, fill-more, fill-ends}
 use Rattle.record_16.proofs.record_bytes.Statement.{statement}
 use Rattle.record_16.proofs.record_bytes.Tie as tie
 

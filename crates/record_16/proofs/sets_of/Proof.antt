@@ -8,7 +8,7 @@ use Rattle.sizes_16.specs.Sizes.{placeCount}
 use Rattle.device.specs.Record.{emptySet}
 use Rattle.record.specs.Bytes.{counterSize, setSize}
 use Rattle.record.specs.Reading.{setRead}
-use Rattle.record.proofs.Parts.{parts-made}
+use Rattle.wire.proofs.Parts.{parts-made}
 use Rattle.record_16.proofs.sets_of.Statement.{statement}
 use Rattle.record_16.proofs.sets_of.Tie as tie
 

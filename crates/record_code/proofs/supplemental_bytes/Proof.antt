@@ -4,7 +4,7 @@ use mathlib.Core.List.{[], _∷_}
 use native.Mathlib.Omega.{arith}
 use lib.ListN.{length, replicate}
 use Rattle.parameters.specs.Fields.{supplementalSize}
-use Rattle.record.proofs.Filling.{fill-starts, fill-more, fill-ends}
+use Rattle.wire.proofs.Filling.{fill-starts, fill-more, fill-ends}
 use Rattle.record_code.proofs.supplemental_bytes.Statement.{statement}
 use Rattle.record_code.proofs.supplemental_bytes.Tie as tie
 

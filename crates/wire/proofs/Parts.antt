@@ -12,10 +12,9 @@ use lib.Seq.{sets, length-sets, drop-cons, drop-drop, drop-at, take-add}
 use Rattle.arrays.specs.Arrays.{mapFrom, all}
 use Rattle.arrays.proofs.Base.{both, and-left, and-right}
 use Rattle.arrays.proofs.Laws.{all-cons}
 use Rattle.wire.proofs.Stores.{sets-append}
-use Rattle.record.specs.Parts.{joined, parts}
-use Rattle.record.specs.Good.{Each}
-use Rattle.record.proofs.Bytes.{Below, below-drop}
+use Rattle.wire.specs.Parts.{joined, parts, Each}
+use Rattle.wire.proofs.Bytes.{Below, below-drop}
 
 -- one part more
 pub next : (size k : ℕ) → size + k * size ≡ suc k * size

@@ -7,8 +7,8 @@ use lib.Dec.{eqb}
 use lib.ListN.{length}
 use Rattle.arrays.proofs.Loops.{Checked, check-starts, check-passes, check-fails, check-ends}
 use Rattle.wire.specs.Numbers.{byteAt}
-use Rattle.record_code.proofs.is_same.Statement.{statement}
-use Rattle.record_code.proofs.is_same.Tie as tie
+use Rattle.wire_code.proofs.is_same.Statement.{statement}
+use Rattle.wire_code.proofs.is_same.Tie as tie
 
 abbrev Inv-loop : tie.InvT-loop
 Inv-loop a b i₀ i-end i = (i-end ≡ length a) × (length a ≡ length b) × Checked (λ k x. eqb x (byteAt b k)) (length a) a i true

@@ -12,11 +12,9 @@ use lib.Seq.{drop-cons, drop-append-add, take-at, getD-drop}
 use Rattle.arrays.specs.Base.{bit}
 use Rattle.arrays.proofs.Base.{cases}
 use Rattle.arrays.proofs.Laws.{each-at}
-use Rattle.wire.specs.Numbers.{byteAt, number, four}
+use Rattle.wire.specs.Numbers.{byteAt, number, four, flagAt, yesOrNo, areBytes}
 use Rattle.wire.specs.Buffers.{padded}
 use Rattle.wire.proofs.Numbers.{four-number}
-use Rattle.record.specs.Reading.{flagAt}
-use Rattle.record.specs.Good.{yesOrNo, areBytes}
 
 -- ---- n bytes
 

@@ -5,8 +5,8 @@ use mathlib.Core.List.{List}
 use native.Mathlib.Omega.{arith}
 use lib.ListN.{length, List·getD-eq-default}
 use Rattle.wire.specs.Numbers.{byteAt, numberAt}
-use Rattle.record_code.proofs.number_at.Statement.{statement}
-use Rattle.record_code.proofs.number_at.Tie as tie
+use Rattle.wire_code.proofs.number_at.Statement.{statement}
+use Rattle.wire_code.proofs.number_at.Tie as tie
 
 -- past the end all four bytes are 0
 past : (s : List ℕ) (i : ℕ) → length s ≤ i → numberAt s i ≡ 0

@@ -12,3 +12,8 @@ joined write (x ∷ xs) = write x ++ joined write xs
 unfoldable pub parts : {A : Type 0} → (List ℕ → A) → ℕ → ℕ → List ℕ → List A
 parts read size zero bytes = []
 parts read size (suc n) bytes = read bytes ∷ parts read size n (drop size bytes)
+
+-- each element has it
+abbrev pub Each : {A : Type 0} → (A → Type 0) → List A → Type 0
+Each P [] = Unit
+Each P (x ∷ xs) = P x × Each P xs
