@@ -2,10 +2,15 @@
 -- Assumes nothing.
 use Prim.Native.Nat.{ℕ, _<_}
 use mathlib.Core.Path.{_≡_, refl}
+use lib.ListN.{length as size}
 use Rattle.wire.specs.Numbers.{byteAt, wordAt}
 use Rattle.wire.proofs.Numbers.{word-two}
 use Rattle.answer.specs.declared.Sense.{Sense}
-use Rattle.command.specs.Replies.{replyHead}
+use Rattle.command.specs.Replies.{replyHeadSize, replyHead}
+
+-- there are as many as stand before the data
+pub head-size : (number : ℕ) (sense : Sense) (length : ℕ) → size (replyHead number sense length) ≡ replyHeadSize
+head-size number sense length = refl
 
 -- they tell the number and the sense
 pub head-number : (number : ℕ) (sense : Sense) (length : ℕ) → byteAt (replyHead number sense length) 0 ≡ number

@@ -25,6 +25,10 @@ use Rattle.command.specs.declared.Request.{Request}
 use Rattle.command.specs.declared.Order.{Order}
 use Rattle.command.specs.declared.Order.the-variants.{Unknown, PowerOn, In, Out, Write, UnitReset, Happen, ReadStatus, TakeRecord, GiveRecord}
 
+-- "Reply: 6 bytes, then data"
+abbrev pub replyHeadSize : ℕ
+replyHeadSize = 6
+
 -- "0 answer number; 1, 2, 3 sense key, ASC, ASCQ; 4–5 length M"
 abbrev pub replyHead : ℕ → Sense → ℕ → List ℕ
 replyHead number sense length = number ∷ sense .key ∷ sense .asc ∷ sense .ascq ∷ two length

@@ -8,7 +8,8 @@ use stream_16::HEAD_SIZE;
 use stream_16::REPLY_MOST;
 use stream_16::Reply;
 ghost use Prim.Native.Nat.{_+_, _≤_};
-ghost use Rattle.stream_16.specs.Stream.{replyHeadSize, replyMost};
+ghost use Rattle.command.specs.Replies.{replyHeadSize};
+ghost use Rattle.stream_16.specs.Stream.{replyMost};
 
 const COMMAND_SIZE: usize = 8;
 

@@ -27,8 +27,8 @@ pub use Rattle.record.proofs.Formed.{good-is-formed}
 pub use Rattle.drive.proofs.Table.{table, proved, further, further-proved}
 -- A row that finds two records the same finds them equal, field by field.
 pub use Rattle.drive.proofs.Same.{same-record}
--- A reply's head tells its number, its sense and how many bytes of data follow.
-pub use Rattle.command.proofs.Replies.{head-number, head-sense, head-length}
+-- A reply's head has the bytes that stand before the data, and tells its number, its sense and how many bytes of data follow.
+pub use Rattle.command.proofs.Replies.{head-size, head-number, head-sense, head-length}
 -- A kind that has data is the kind of a known command, so data are never read for an unknown one.
 pub use Rattle.command.proofs.Requests.{out-order, read-order, take-order}
 -- The stored session of the stream, further commands and records taken and given: what is replied is what is printed there.

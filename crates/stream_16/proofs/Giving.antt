@@ -25,10 +25,10 @@ use Rattle.drive_16.specs.Outcomes.{inOutcomeBy, inOutcome, writeOutcomeBy, wri
 use Rattle.drive_16.specs.declared.InOutcome.{InOutcome}
 use Rattle.drive_16.specs.declared.WriteOutcome.{WriteOutcome}
 use Rattle.command.specs.Requests.{lentMost}
-use Rattle.command.specs.Replies.{Replied, whenDone, inBytes, inReply, writeBytes, writeReply}
+use Rattle.command.specs.Replies.{replyHeadSize, Replied, whenDone, inBytes, inReply, writeBytes, writeReply}
 use Rattle.wire.proofs.Numbers.{two-lower}
 use Rattle.wire.proofs.Stores.{part-stored}
-use Rattle.stream_16.specs.Stream.{replyHeadSize, lentFrom, lentPart, replyOf, replyWith, Given}
+use Rattle.stream_16.specs.Stream.{lentFrom, lentPart, replyOf, replyWith, Given}
 use Rattle.stream_16.specs.declared.Reply.{Reply}
 
 -- a reply without data leaves the buffer as it was

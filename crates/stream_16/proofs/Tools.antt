@@ -21,8 +21,8 @@ use Rattle.record.specs.Reading.{recordRead}
 use Rattle.record.specs.Good.{goodBytes, recordTaken}
 use Rattle.record_16.specs.Loading.{loaded}
 use Rattle.record_16.specs.declared.Loaded.{Loaded}
-use Rattle.command.specs.Replies.{answered, whenDone, valuesHead, valuesBytes, statusReply, takeReply, giveReply}
-use Rattle.stream_16.specs.Stream.{replyHeadSize, replyMost, replyOf, replyWith, Given}
+use Rattle.command.specs.Replies.{replyHeadSize, answered, whenDone, valuesHead, valuesBytes, statusReply, takeReply, giveReply}
+use Rattle.stream_16.specs.Stream.{replyMost, replyOf, replyWith, Given}
 use Rattle.stream_16.specs.declared.Reply.{Reply}
 use Rattle.stream_16.proofs.Giving.{kept}
 

@@ -14,13 +14,9 @@ use Rattle.sizes_16.specs.Sizes.{nexusCount, placeCount}
 use Rattle.device_16.specs.Model.{device}
 use Rattle.device_16.specs.declared.Device.{Device}
 use Rattle.command.specs.Requests.{orderOf, lentMost, lentSize}
-use Rattle.command.specs.Replies.{Replied, unknownReply, replied}
+use Rattle.command.specs.Replies.{replyHeadSize, Replied, unknownReply, replied}
 use Rattle.command.specs.declared.Request.{Request}
 use Rattle.stream_16.specs.declared.Reply.{Reply}
-
--- "Reply: 6 bytes, then data"
-abbrev pub replyHeadSize : ℕ
-replyHeadSize = 6
 
 -- IN: "the page's full length (2 ..), then the lent buffer whole"
 abbrev pub lentFrom : ℕ
