@@ -23,6 +23,8 @@ use Rattle.promises_16.specs.Runs.{leaves, sincePowerOn}
 -- What this model writes as a record's bytes is loaded as the same record; bytes that are loaded, written again, are the same bytes; a
 -- load takes bytes exactly if their count is right and each yes/no byte is 0 or 1; a refused one carries nothing.
 pub use Rattle.record_16.proofs.RoundTrip.{loaded-of-record, written-of-loaded, loaded-is-formed, refused-load}
+-- A command whose reply has room is replied to as the stream's definition says.
+pub use Rattle.stream_16.proofs.Serving.{is-served}
 
 -- it is the record over lists
 pub leaves-run : (d : Device) (calls : List Call) → state (leaves d calls) ≡ runFrom (state d) calls

@@ -1,4 +1,5 @@
 pub mod Giving
 pub mod Tools
 pub mod Obeying
+pub mod Serving
 pub mod Settled
