@@ -1,9 +1,9 @@
--- Document 01, "Answer numbers": the table, a row for each answer.
+-- Document 01, "Answer numbers": the table, a row for each answer; with the rows that document 02 adds.
 use Prim.Native.Nat.{ℕ}
 use mathlib.Core.Bool.{Bool}
 use lib.Dec.{eqb}
 use Rattle.answer.specs.declared.Answer.{Answer}
-use Rattle.answer.specs.declared.Answer.the-variants.{Done, NotWellFormed, NexusAbove, ChangedByAnotherNexus, ChangedByVendorEvent, ProtocolNotSupported, PageNotSupported, PageLengthWrong, FieldWrong, FifthSupplementalKey, NoPlaceForLocal, KeyInstanceChanged, ParametersNotUsable, PlaceAbove}
+use Rattle.answer.specs.declared.Answer.the-variants.{Done, NotWellFormed, NexusAbove, ChangedByAnotherNexus, ChangedByVendorEvent, ProtocolNotSupported, PageNotSupported, PageLengthWrong, FieldWrong, FifthSupplementalKey, NoPlaceForLocal, KeyInstanceChanged, ParametersNotUsable, PlaceAbove, BlockNotKnown, UnableToDecrypt, NotEncrypted, KeyIncorrect}
 use Rattle.answer.specs.declared.Sense.{Sense}
 use Rattle.answer.specs.declared.Change.{Change}
 use Rattle.answer.specs.declared.Change.the-variants.{Unchanged, AnotherCleared, VendorCleared, Registered}
@@ -30,6 +30,10 @@ rowOf NoPlaceForLocal = row 10 5 0x55 0x03 Registered
 rowOf KeyInstanceChanged = row 11 7 0x2A 0x13 Unchanged
 rowOf ParametersNotUsable = row 12 7 0x74 0x07 Unchanged
 rowOf PlaceAbove = row 13 0 0 0 Unchanged
+rowOf BlockNotKnown = row 14 0 0 0 Unchanged
+rowOf UnableToDecrypt = row 15 7 0x74 0x01 Unchanged
+rowOf NotEncrypted = row 16 7 0x74 0x02 Unchanged
+rowOf KeyIncorrect = row 17 7 0x74 0x03 Unchanged
 
 abbrev pub numberOf : Answer → ℕ
 numberOf a = rowOf a .number

@@ -1,12 +1,12 @@
--- Document 01, "Answer numbers": the table as it is printed, for the answers in the order of their numbers.
+-- Document 01, "Answer numbers": the table as it is printed, with the rows of document 02, for the answers in the order of their numbers.
 use mathlib.Core.List.{List, [], _∷_}
 use Rattle.answer.specs.Answers.{row}
 use Rattle.answer.specs.declared.Row.{Row}
 use Rattle.answer.specs.declared.Change.the-variants.{Unchanged, AnotherCleared, VendorCleared, Registered}
 use Rattle.answer.specs.declared.Answer.{Answer}
-use Rattle.answer.specs.declared.Answer.the-variants.{Done, NotWellFormed, NexusAbove, ChangedByAnotherNexus, ChangedByVendorEvent, ProtocolNotSupported, PageNotSupported, PageLengthWrong, FieldWrong, FifthSupplementalKey, NoPlaceForLocal, KeyInstanceChanged, ParametersNotUsable, PlaceAbove}
+use Rattle.answer.specs.declared.Answer.the-variants.{Done, NotWellFormed, NexusAbove, ChangedByAnotherNexus, ChangedByVendorEvent, ProtocolNotSupported, PageNotSupported, PageLengthWrong, FieldWrong, FifthSupplementalKey, NoPlaceForLocal, KeyInstanceChanged, ParametersNotUsable, PlaceAbove, BlockNotKnown, UnableToDecrypt, NotEncrypted, KeyIncorrect}
 
--- the rows as document 01 prints them: number, sense key, ASC, ASCQ (zeros for "none"), record change
+-- the rows as they are printed: number, sense key, ASC, ASCQ (zeros for "none"), record change
 abbrev pub printed : List Row
 printed =
     row 0 0 0 0 Unchanged
@@ -23,6 +23,10 @@ printed =
     ∷ row 11 7 0x2A 0x13 Unchanged
     ∷ row 12 7 0x74 0x07 Unchanged
     ∷ row 13 0 0 0 Unchanged
+    ∷ row 14 0 0 0 Unchanged  -- document 02, request 1: "14 without sense", "15 (7/74/01)", "16 (7/74/02)", "17 (7/74/03)"
+    ∷ row 15 7 0x74 0x01 Unchanged
+    ∷ row 16 7 0x74 0x02 Unchanged
+    ∷ row 17 7 0x74 0x03 Unchanged
     ∷ []
 
 -- the answers in the order of their numbers
@@ -42,4 +46,8 @@ everyAnswer =
     ∷ KeyInstanceChanged
     ∷ ParametersNotUsable
     ∷ PlaceAbove
+    ∷ BlockNotKnown
+    ∷ UnableToDecrypt
+    ∷ NotEncrypted
+    ∷ KeyIncorrect
     ∷ []

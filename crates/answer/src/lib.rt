@@ -1,4 +1,4 @@
-// Every answer of document 01, "Answer numbers": its number, its sense bytes and what a refusal changes in the record.
+// Every answer of document 01, "Answer numbers", and of document 02: its number, its sense bytes and what a refusal changes in the record.
 
 pub enum Answer {
     Done,
@@ -15,6 +15,10 @@ pub enum Answer {
     KeyInstanceChanged,
     ParametersNotUsable,
     PlaceAbove,
+    BlockNotKnown,
+    UnableToDecrypt,
+    NotEncrypted,
+    KeyIncorrect,
 }
 
 // Sense key, additional sense code and its qualifier; zeros where an answer has none.
@@ -47,7 +51,7 @@ pub struct Row {
     pub change: Change,
 }
 
-// Document 01's table: number; sense key, ASC and ASCQ (zeros where there is none); record change.
+// Document 01's table, and the rows that document 02 adds: number; sense key, ASC and ASCQ (zeros where there is none); record change.
 impl Row {
     pub const DONE: Row = Row {
         number: 0,
@@ -170,6 +174,43 @@ impl Row {
     pub const PLACE_ABOVE: Row = Row {
         number: 13,
         sense: Sense::NONE,
+        change: Change::Unchanged,
+    };
+
+    // Document 02, request 1.
+    pub const BLOCK_NOT_KNOWN: Row = Row {
+        number: 14,
+        sense: Sense::NONE,
+        change: Change::Unchanged,
+    };
+
+    pub const UNABLE_TO_DECRYPT: Row = Row {
+        number: 15,
+        sense: Sense {
+            key: 7,
+            asc: 0x74,
+            ascq: 0x01,
+        },
+        change: Change::Unchanged,
+    };
+
+    pub const NOT_ENCRYPTED: Row = Row {
+        number: 16,
+        sense: Sense {
+            key: 7,
+            asc: 0x74,
+            ascq: 0x02,
+        },
+        change: Change::Unchanged,
+    };
+
+    pub const KEY_INCORRECT: Row = Row {
+        number: 17,
+        sense: Sense {
+            key: 7,
+            asc: 0x74,
+            ascq: 0x03,
+        },
         change: Change::Unchanged,
     };
 }

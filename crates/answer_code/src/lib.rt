@@ -24,6 +24,10 @@ pub fn row_of(answer: Answer) -> Row
         Answer::KeyInstanceChanged => Row::KEY_INSTANCE_CHANGED,
         Answer::ParametersNotUsable => Row::PARAMETERS_NOT_USABLE,
         Answer::PlaceAbove => Row::PLACE_ABOVE,
+        Answer::BlockNotKnown => Row::BLOCK_NOT_KNOWN,
+        Answer::UnableToDecrypt => Row::UNABLE_TO_DECRYPT,
+        Answer::NotEncrypted => Row::NOT_ENCRYPTED,
+        Answer::KeyIncorrect => Row::KEY_INCORRECT,
     }
 }
 

@@ -8,8 +8,8 @@ use borrow.Author.Tests.{leb-true}
 use lib.Dec.{leb, eqb}
 use Rattle.arrays.specs.Base.{if_then_else_}
 use Rattle.arrays.proofs.Base.{cases}
-use Rattle.command.specs.Kinds.{powerOnKind, inKind, outKind, writeKind, unitResetKind, readStatusKind, takeRecordKind, giveRecordKind, isEvent}
-use Rattle.command.specs.Requests.{commandOf, eventOf, lentMost, inOrder, flagMost, writeOrder, toolOrder, orderOf, lentSize}
+use Rattle.command.specs.Kinds.{powerOnKind, inKind, outKind, writeKind, unitResetKind, readKind, readStatusKind, takeRecordKind, giveRecordKind, isEvent}
+use Rattle.command.specs.Requests.{commandOf, eventOf, lentMost, inOrder, flagMost, writeOrder, readOrder, toolOrder, orderOf, lentSize}
 use Rattle.command.specs.declared.Request.{Request}
 use Rattle.command.specs.declared.Order.{Order}
 use Rattle.command.specs.declared.Order.the-variants.{Unknown, PowerOn, Out, Write, UnitReset, Happen, ReadStatus, TakeRecord, GiveRecord}
@@ -41,7 +41,8 @@ lends-most r =
     (either (eqb (r .kind) outKind) (Out (commandOf r)) _ (omega arith)
     (either (eqb (r .kind) writeKind) (writeOrder r) _ (write-lends r)
     (either (eqb (r .kind) unitResetKind) UnitReset _ (omega arith)
-    (either (isEvent (r .kind)) (Happen (eventOf (r .kind) (r .nexus) (r .argument))) (toolOrder (r .kind)) (omega arith) (tool-lends (r .kind)))))))
+    (either (isEvent (r .kind)) (Happen (eventOf (r .kind) (r .nexus) (r .argument))) _ (omega arith)
+    (either (eqb (r .kind) readKind) (readOrder r) (toolOrder (r .kind)) (omega arith) (tool-lends (r .kind))))))))
 
 -- the kinds that have data are known: so "no data are read after" an unknown command
 module _ (r : Request) where
@@ -49,9 +50,9 @@ module _ (r : Request) where
   unfolding orderOf
   out-order e = rw e refl
 
-  pub read-order : r .kind ≡ readStatusKind → orderOf r ≡ ReadStatus
+  pub status-order : r .kind ≡ readStatusKind → orderOf r ≡ ReadStatus
   unfolding orderOf toolOrder
-  read-order e = rw e refl
+  status-order e = rw e refl
 
   pub take-order : r .kind ≡ takeRecordKind → orderOf r ≡ TakeRecord
   unfolding orderOf toolOrder

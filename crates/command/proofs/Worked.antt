@@ -18,17 +18,18 @@ use Rattle.status.specs.Reading.{readStatus}
 use Rattle.marks.specs.Marks.{changes, flagged}
 use Rattle.marks.specs.Reset.{cleared}
 use Rattle.places.specs.Actions.{act, acts, releases, ownPlace, room, pageActions, senderAfter, supplemented, taken}
+use Rattle.drive.specs.Restoring.{underMode}
 use Rattle.drive.specs.Checks.{checks, answer}
 use Rattle.drive.specs.Effects.{effectBy}
 use Rattle.drive.specs.After.{actionsOf, changedBy, carriedOut}
 use Rattle.drive.specs.Outcomes.{responsePage}
-use Rattle.drive.specs.Claims.{page, pageK, locked}
+use Rattle.drive.specs.Claims.{page, pageK, locked, keyless}
 use Rattle.wire.specs.Parts.{joined, parts}
 use Rattle.record.specs.Bytes.{kadsBytes, setBytes, nexusBytes, recordBytes}
 use Rattle.record.specs.Reading.{kadsRead, fieldsRead, setRead, nexusRead, recordRead}
 use Rattle.record.specs.Good.{goodBytes}
 use Rattle.command.specs.Requests.{eventOf, toolOrder, orderOf}
-use Rattle.command.specs.Replies.{inReply, writeReply, statusReply, takeReply, giveReply, obeyed}
+use Rattle.command.specs.Replies.{inReply, writeReply, readReply, statusReply, takeReply, giveReply, obeyed}
 use Rattle.command.specs.Claims.{Exchange, exchange, converse}
 
 -- a reply without data: number, sense
@@ -70,14 +71,18 @@ session =
     ∷ exchange (0x03 ∷ 0x03 ∷ 0x00 ∷ 0x01 ∷ 0x00 ∷ 0x00 ∷ 0x00 ∷ 0x00 ∷ []) [] (0x00 ∷ 0x00 ∷ 0x00 ∷ 0x00 ∷ 0x00 ∷ 0x03 ∷ 0x02 ∷ 0x01 ∷ 0x01 ∷ [])
     ∷ exchange (0x03 ∷ 0x03 ∷ 0x00 ∷ 0x00 ∷ 0x00 ∷ 0x00 ∷ 0x00 ∷ 0x00 ∷ []) [] (plain 0x0C 0x07 0x74 0x07)
     ∷ exchange (0x03 ∷ 0x03 ∷ 0x00 ∷ 0x02 ∷ 0x00 ∷ 0x00 ∷ 0x00 ∷ 0x00 ∷ []) [] unknown
-    -- demount; the nexus is told, then its write is stopped
+    -- reads: decrypted with the main key; plain under DECRYPT
+    ∷ exchange (0x0B ∷ 0x03 ∷ 0x01 ∷ 0x00 ∷ 0x00 ∷ 0x00 ∷ 0x00 ∷ 0x00 ∷ []) [] (0x00 ∷ 0x00 ∷ 0x00 ∷ 0x00 ∷ 0x00 ∷ 0x02 ∷ 0x02 ∷ 0x01 ∷ [])
+    ∷ exchange (0x0B ∷ 0x03 ∷ 0x00 ∷ 0xFF ∷ 0x00 ∷ 0x00 ∷ 0x00 ∷ 0x00 ∷ []) [] (plain 0x10 0x07 0x74 0x02)
+    -- demount; the nexus is told, then its write is stopped, and it reads
     ∷ exchange (0x05 ∷ 0x00 ∷ 0x00 ∷ 0x00 ∷ 0x00 ∷ 0x00 ∷ 0x00 ∷ 0x00 ∷ []) [] done
     ∷ exchange (0x03 ∷ 0x03 ∷ 0x00 ∷ 0x01 ∷ 0x00 ∷ 0x00 ∷ 0x00 ∷ 0x00 ∷ []) [] (plain 0x04 0x06 0x2A 0x12)
     ∷ exchange (0x03 ∷ 0x03 ∷ 0x00 ∷ 0x01 ∷ 0x00 ∷ 0x00 ∷ 0x00 ∷ 0x00 ∷ []) [] (plain 0x0B 0x07 0x2A 0x13)
+    ∷ exchange (0x0B ∷ 0x03 ∷ 0x00 ∷ 0xFF ∷ 0x00 ∷ 0x00 ∷ 0x00 ∷ 0x00 ∷ []) [] (0x00 ∷ 0x00 ∷ 0x00 ∷ 0x00 ∷ 0x00 ∷ 0x02 ∷ 0x00 ∷ 0x00 ∷ [])
     -- a refused IN, whose buffer stays; a buffer too large; no such kind
     ∷ exchange (0x01 ∷ 0x10 ∷ 0x00 ∷ 0x20 ∷ 0x20 ∷ 0x00 ∷ 0x00 ∷ 0x04 ∷ []) [] (0x02 ∷ 0x00 ∷ 0x00 ∷ 0x00 ∷ 0x00 ∷ 0x06 ∷ 0x00 ∷ 0x00 ∷ replicate 4 0xA5)
     ∷ exchange (0x01 ∷ 0x00 ∷ 0x00 ∷ 0x20 ∷ 0x20 ∷ 0x00 ∷ 0x10 ∷ 0x01 ∷ []) [] unknown
-    ∷ exchange (0x0B ∷ 0x00 ∷ 0x00 ∷ 0x00 ∷ 0x00 ∷ 0x00 ∷ 0x00 ∷ 0x03 ∷ []) [] unknown
+    ∷ exchange (0x0C ∷ 0x00 ∷ 0x00 ∷ 0x00 ∷ 0x00 ∷ 0x00 ∷ 0x00 ∷ 0x03 ∷ []) [] unknown
     -- vendor release of a place above; no record; the record
     ∷ exchange (0x0A ∷ 0x00 ∷ 0x00 ∷ 0x05 ∷ 0x00 ∷ 0x00 ∷ 0x00 ∷ 0x00 ∷ []) [] (plain 0x0D 0x00 0x00 0x00)
     ∷ exchange (0xFE ∷ 0x00 ∷ 0x00 ∷ 0x00 ∷ 0x00 ∷ 0x00 ∷ 0x00 ∷ 0x01 ∷ []) (0x02 ∷ []) (plain 0x01 0x00 0x00 0x00)
@@ -85,7 +90,7 @@ session =
     ∷ []
 
 pub session-proved : T (converse (powerOn 16 5) session)
-unfolding session converse obeyed inReply writeReply statusReply takeReply giveReply eventOf toolOrder orderOf joined parts kadsBytes setBytes nexusBytes recordBytes kadsRead fieldsRead setRead nexusRead recordRead goodBytes readStatus scopeRules fieldRules headRules listRules answer checks effectBy actionsOf changedBy carriedOut changes flagged cleared responsePage act acts releases ownPlace room pageActions senderAfter supplemented taken statusBytes setGood nexusGood ownerIsLocal wellFormed ownedPlace selected powerOn publicPage supplementalPage setPage checked openRules modeRules plainRules keyRules setRules matchRules endRules supplementalRules listOf descriptorRules listed descriptors
+unfolding session converse obeyed inReply writeReply readReply underMode statusReply takeReply giveReply eventOf toolOrder orderOf joined parts kadsBytes setBytes nexusBytes recordBytes kadsRead fieldsRead setRead nexusRead recordRead goodBytes readStatus scopeRules fieldRules headRules listRules answer checks effectBy actionsOf changedBy carriedOut changes flagged cleared responsePage act acts releases ownPlace room pageActions senderAfter supplemented taken statusBytes setGood nexusGood ownerIsLocal wellFormed ownedPlace selected powerOn publicPage supplementalPage setPage checked openRules modeRules plainRules keyRules setRules matchRules endRules supplementalRules listOf descriptorRules listed descriptors
 session-proved = tt
 
 -- every kind, and what the session doesn't show
@@ -133,12 +138,22 @@ further =
     ∷ exchange (0x03 ∷ 0x07 ∷ 0x01 ∷ 0x00 ∷ 0x00 ∷ 0x00 ∷ 0x00 ∷ 0x00 ∷ []) [] unknown
     ∷ exchange (0x0C ∷ 0x00 ∷ 0x00 ∷ 0x00 ∷ 0x00 ∷ 0x00 ∷ 0x00 ∷ 0x00 ∷ []) [] unknown
     ∷ exchange (0xFC ∷ 0x00 ∷ 0x00 ∷ 0x00 ∷ 0x00 ∷ 0x00 ∷ 0x00 ∷ 0x00 ∷ []) [] unknown
+    -- reads: raw, under RAW without ENCRYPT, where no key is had; a kind above 2; no such nexus; other fields aren't read
+    ∷ exchange (0x02 ∷ 0x08 ∷ 0x00 ∷ 0x10 ∷ 0x20 ∷ 0x00 ∷ 0x00 ∷ 0x14 ∷ []) (keyless 0x20 0x00 0x00 0x01) done
+    ∷ exchange (0x0B ∷ 0x08 ∷ 0x02 ∷ 0xFF ∷ 0x21 ∷ 0x7F ∷ 0xFF ∷ 0xFF ∷ []) [] (0x00 ∷ 0x00 ∷ 0x00 ∷ 0x00 ∷ 0x00 ∷ 0x02 ∷ 0x01 ∷ 0x01 ∷ [])
+    ∷ exchange (0x0B ∷ 0x08 ∷ 0x01 ∷ 0x00 ∷ 0x00 ∷ 0x00 ∷ 0x00 ∷ 0x00 ∷ []) [] (plain 0x0E 0x00 0x00 0x00)
+    ∷ exchange (0x0B ∷ 0x08 ∷ 0x03 ∷ 0xFF ∷ 0x00 ∷ 0x00 ∷ 0x00 ∷ 0x00 ∷ []) [] (plain 0x0E 0x00 0x00 0x00)
+    ∷ exchange (0x0B ∷ 0x10 ∷ 0x03 ∷ 0xFF ∷ 0x00 ∷ 0x00 ∷ 0x00 ∷ 0x00 ∷ []) [] (plain 0x02 0x00 0x00 0x00)
+    -- page K: encrypted otherwise; no key opened it
+    ∷ exchange (0x02 ∷ 0x08 ∷ 0x00 ∷ 0x10 ∷ 0x20 ∷ 0x00 ∷ 0x00 ∷ 0x34 ∷ []) (pageK locked) done
+    ∷ exchange (0x0B ∷ 0x08 ∷ 0x02 ∷ 0xFF ∷ 0x00 ∷ 0x00 ∷ 0x00 ∷ 0x00 ∷ []) [] (plain 0x0F 0x07 0x74 0x01)
+    ∷ exchange (0x0B ∷ 0x08 ∷ 0x01 ∷ 0xFF ∷ 0x00 ∷ 0x00 ∷ 0x00 ∷ 0x00 ∷ []) [] (plain 0x11 0x07 0x74 0x03)
     -- no status page
     ∷ exchange (0xFD ∷ 0x00 ∷ 0x00 ∷ 0x00 ∷ 0x00 ∷ 0x00 ∷ 0x00 ∷ 0x17 ∷ []) (take 23 status2) (plain 0x07 0x05 0x1A 0x00)
     ∷ []
 
 pub further-proved : T (converse (powerOn 16 5) further)
-unfolding further converse obeyed inReply writeReply statusReply takeReply giveReply eventOf toolOrder orderOf joined parts kadsBytes setBytes nexusBytes recordBytes kadsRead fieldsRead setRead nexusRead recordRead goodBytes readStatus scopeRules fieldRules headRules listRules answer checks effectBy actionsOf changedBy carriedOut changes flagged cleared responsePage act acts releases ownPlace room pageActions senderAfter supplemented taken statusBytes setGood nexusGood ownerIsLocal wellFormed ownedPlace selected powerOn publicPage supplementalPage setPage checked openRules modeRules plainRules keyRules setRules matchRules endRules supplementalRules listOf descriptorRules listed descriptors
+unfolding further converse obeyed inReply writeReply readReply underMode statusReply takeReply giveReply eventOf toolOrder orderOf joined parts kadsBytes setBytes nexusBytes recordBytes kadsRead fieldsRead setRead nexusRead recordRead goodBytes readStatus scopeRules fieldRules headRules listRules answer checks effectBy actionsOf changedBy carriedOut changes flagged cleared responsePage act acts releases ownPlace room pageActions senderAfter supplemented taken statusBytes setGood nexusGood ownerIsLocal wellFormed ownedPlace selected powerOn publicPage supplementalPage setPage checked openRules modeRules plainRules keyRules setRules matchRules endRules supplementalRules listOf descriptorRules listed descriptors
 further-proved = tt
 
 -- on a drive of 2 nexuses and 2 places: the counter at 2, place 1 empty with number 2, nexus 1 locked
@@ -159,5 +174,5 @@ records =
     ∷ []
 
 pub records-proved : T (converse (powerOn 2 2) records)
-unfolding records converse obeyed inReply writeReply statusReply takeReply giveReply eventOf toolOrder orderOf joined parts kadsBytes setBytes nexusBytes recordBytes kadsRead fieldsRead setRead nexusRead recordRead goodBytes readStatus scopeRules fieldRules headRules listRules answer checks effectBy actionsOf changedBy carriedOut changes flagged cleared responsePage act acts releases ownPlace room pageActions senderAfter supplemented taken statusBytes setGood nexusGood ownerIsLocal wellFormed ownedPlace selected powerOn publicPage supplementalPage setPage checked openRules modeRules plainRules keyRules setRules matchRules endRules supplementalRules listOf descriptorRules listed descriptors
+unfolding records converse obeyed inReply writeReply readReply underMode statusReply takeReply giveReply eventOf toolOrder orderOf joined parts kadsBytes setBytes nexusBytes recordBytes kadsRead fieldsRead setRead nexusRead recordRead goodBytes readStatus scopeRules fieldRules headRules listRules answer checks effectBy actionsOf changedBy carriedOut changes flagged cleared responsePage act acts releases ownPlace room pageActions senderAfter supplemented taken statusBytes setGood nexusGood ownerIsLocal wellFormed ownedPlace selected powerOn publicPage supplementalPage setPage checked openRules modeRules plainRules keyRules setRules matchRules endRules supplementalRules listOf descriptorRules listed descriptors
 records-proved = tt

@@ -36,6 +36,9 @@ microcodeKind = 9
 abbrev pub vendorReleaseKind : ℕ
 vendorReleaseKind = 10
 
+abbrev pub readKind : ℕ
+readKind = 11
+
 abbrev pub readStatusKind : ℕ
 readStatusKind = 253
 

@@ -13,17 +13,19 @@ use Rattle.device.specs.Record.{State}
 use Rattle.status.specs.Reading.{readStatus}
 use Rattle.status.specs.declared.Status.{Status}
 use Rattle.drive.specs.declared.Command.{Command}
-use Rattle.drive.specs.Calls.{Call, powerUp, securityIn, securityOut, write, unitReset, happens}
+use Rattle.drive.specs.declared.Block.{Block}
+use Rattle.drive.specs.Restoring.{readValueOf}
+use Rattle.drive.specs.Calls.{Call, powerUp, securityIn, securityOut, write, read, unitReset, happens}
 use Rattle.drive.specs.Checks.{answer}
 use Rattle.drive.specs.After.{after}
-use Rattle.drive.specs.Outcomes.{inLength, inBuffer, decision, decidedPlace, decidedIndex, valueOf}
+use Rattle.drive.specs.Outcomes.{inLength, inBuffer, decision, decidedPlace, decidedIndex, readDecision, valueOf}
 use Rattle.record.specs.Bytes.{kadsBytes, recordBytes}
 use Rattle.record.specs.Reading.{recordRead}
 use Rattle.record.specs.Good.{goodBytes}
 use Rattle.command.specs.Requests.{orderOf}
 use Rattle.command.specs.declared.Request.{Request}
 use Rattle.command.specs.declared.Order.{Order}
-use Rattle.command.specs.declared.Order.the-variants.{Unknown, PowerOn, In, Out, Write, UnitReset, Happen, ReadStatus, TakeRecord, GiveRecord}
+use Rattle.command.specs.declared.Order.the-variants.{Unknown, PowerOn, In, Out, Write, Read, UnitReset, Happen, ReadStatus, TakeRecord, GiveRecord}
 
 -- "Reply: 6 bytes, then data"
 abbrev pub replyHeadSize : ℕ
@@ -81,6 +83,15 @@ writeReply s n supported =
     let a = answer s (write n supported) in
     answered a (whenDone a (writeBytes s n a)) (after s (write n supported))
 
+-- a read, with that answer: "0 plain, 1 raw, 2 decrypted; place"
+abbrev pub readBytes : State → ℕ → Block → Answer → List ℕ
+readBytes s n block a = readValueOf (readDecision s n block a) ∷ decidedPlace s n a ∷ []
+
+unfoldable pub readReply : State → ℕ → Block → Replied
+readReply s n block =
+    let a = answer s (read n block) in
+    answered a (whenDone a (readBytes s n block a)) (after s (read n block))
+
 -- "nexus scope, set scope, encryption, decryption, index, instance number (4), CEEMS, RDMD": the 11 bytes before the U-KAD's length
 abbrev pub valuesHead : Status → List ℕ
 valuesHead v =
@@ -112,6 +123,7 @@ obeyed s PowerOn page lent = called s powerUp
 obeyed s (In command size) page lent = inReply s command lent
 obeyed s (Out command) page lent = called s (securityOut command page)
 obeyed s (Write n supported) page lent = writeReply s n supported
+obeyed s (Read n block) page lent = readReply s n block
 obeyed s UnitReset page lent = called s unitReset
 obeyed s (Happen event) page lent = called s (happens event)
 obeyed s ReadStatus page lent = statusReply s page

@@ -7,10 +7,11 @@ use Rattle.wire.specs.Numbers.{byteAt, wordAt}
 use Rattle.places.specs.declared.Event.{Event}
 use Rattle.places.specs.declared.Event.the-variants.{Demount, NexusLoss, DeviceLoss, Preempt, Microcode, VendorRelease}
 use Rattle.drive.specs.declared.Command.{Command}
-use Rattle.command.specs.Kinds.{powerOnKind, inKind, outKind, writeKind, unitResetKind, demountKind, nexusLossKind, deviceLossKind, preemptKind, microcodeKind, readStatusKind, takeRecordKind, giveRecordKind, isEvent}
+use Rattle.drive.specs.Restoring.{blockOf}
+use Rattle.command.specs.Kinds.{powerOnKind, inKind, outKind, writeKind, unitResetKind, demountKind, nexusLossKind, deviceLossKind, preemptKind, microcodeKind, readKind, readStatusKind, takeRecordKind, giveRecordKind, isEvent}
 use Rattle.command.specs.declared.Request.{Request}
 use Rattle.command.specs.declared.Order.{Order}
-use Rattle.command.specs.declared.Order.the-variants.{Unknown, PowerOn, In, Out, Write, UnitReset, Happen, ReadStatus, TakeRecord, GiveRecord}
+use Rattle.command.specs.declared.Order.the-variants.{Unknown, PowerOn, In, Out, Write, Read, UnitReset, Happen, ReadStatus, TakeRecord, GiveRecord}
 
 -- "0 kind; 1 nexus; 2–3 argument; 4 protocol; 5 port: not read; 6–7 length L"
 abbrev pub requestOf : List ℕ → Request
@@ -50,6 +51,10 @@ flagMost = 1
 abbrev pub writeOrder : Request → Order
 writeOrder r = if leb (r .argument) flagMost then Write (r .nexus) (eqb (r .argument) 1) else Unknown
 
+-- read: "block kind × 256 + key", whatever they are: what is wrong with them is the call's to say
+abbrev pub readOrder : Request → Order
+readOrder r = Read (r .nexus) (blockOf (r .argument))
+
 -- a kind that is no call of the drive's
 unfoldable pub toolOrder : (kind : ℕ) → Order
 toolOrder kind =
@@ -58,7 +63,7 @@ toolOrder kind =
     else if eqb kind giveRecordKind then GiveRecord
     else Unknown
 
--- "An unknown command is one of a kind not in the table (11 to 252), an IN with L above 4,096, or a write with an argument above 1."
+-- "An unknown command is one of a kind not in the table (12 to 252), an IN with L above 4,096, or a write with an argument above 1."
 unfoldable pub orderOf : Request → Order
 orderOf r =
     if eqb (r .kind) powerOnKind then PowerOn
@@ -67,6 +72,7 @@ orderOf r =
     else if eqb (r .kind) writeKind then writeOrder r
     else if eqb (r .kind) unitResetKind then UnitReset
     else if isEvent (r .kind) then Happen (eventOf (r .kind) (r .nexus) (r .argument))
+    else if eqb (r .kind) readKind then readOrder r
     else toolOrder (r .kind)
 
 -- the size of the buffer that is lent to it
@@ -76,6 +82,7 @@ lentSize PowerOn = 0
 lentSize (In command size) = size
 lentSize (Out command) = 0
 lentSize (Write n supported) = 0
+lentSize (Read n block) = 0
 lentSize UnitReset = 0
 lentSize (Happen event) = 0
 lentSize ReadStatus = 0

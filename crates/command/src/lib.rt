@@ -1,4 +1,5 @@
 // A command of docs/CONSOLE.md: what its 8 bytes tell, and what it orders.
+use drive::Block;
 use drive::Command;
 use places::Event;
 
@@ -24,6 +25,8 @@ pub const PREEMPT: u8 = 8;
 pub const MICROCODE: u8 = 9;
 
 pub const VENDOR_RELEASE: u8 = 10;
+
+pub const READ: u8 = 11;
 
 pub const READ_STATUS: u8 = 253;
 
@@ -53,6 +56,7 @@ pub enum Order {
     In(Command, u16),
     Out(Command),
     Write(u8, bool),
+    Read(u8, Block),
     UnitReset,
     Happen(Event),
     ReadStatus,

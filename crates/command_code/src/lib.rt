@@ -11,6 +11,7 @@ use command::OUT;
 use command::Order;
 use command::POWER_ON;
 use command::PREEMPT;
+use command::READ;
 use command::READ_STATUS;
 use command::Request;
 use command::TAKE_RECORD;
@@ -142,6 +143,9 @@ pub fn order_of(request: Request) -> Order
     }
     if is_event(kind) {
         return Order::Happen(event_of(kind, request.nexus, request.argument));
+    }
+    if kind == READ {
+        return Order::Read(request.nexus, drive_code::block_of(request.argument));
     }
     tool_order(kind)
 }

@@ -1,14 +1,19 @@
 -- Laws of checks in number order.
 -- Assumes nothing.
-use mathlib.Core.Path.{_≡_, refl, sym, ap, _∙_}
+use Prim.Native.Nat.{ℕ}
+use mathlib.Core.Path.{_≡_, refl, sym, ap, ap₂, _∙_}
 use mathlib.Core.Bool.{Bool, true, false, not}
 use mathlib.Core.List.{List, [], _∷_, _++_}
 use borrow.Author.Tests.{not-true, not-false}
+use lib.ListN.{length}
 use Rattle.arrays.proofs.Base.{cases, clash}
 use Rattle.answer.specs.Answers.{isDone}
 use Rattle.answer.specs.declared.Answer.{Answer}
 use Rattle.answer.proofs.Numbers.{done-is}
-use Rattle.drive.specs.Checks.{answerIf, firstOf}
+use Rattle.device.specs.Record.{State, nexusAt}
+use Rattle.device.specs.declared.Nexus.{Nexus}
+use Rattle.drive.specs.Calls.{Call}
+use Rattle.drive.specs.Checks.{answerIf, firstOf, heard, heardOf, checks, knownAnswer}
 
 -- where the first checks find a fault, theirs is the answer
 pub first-stops : (a b : List Answer) → isDone (firstOf a) ≡ false → firstOf (a ++ b) ≡ firstOf a
@@ -46,6 +51,23 @@ all-done (a ∷ more) e = cases (isDone a) (λ t. (t, all-done more (rw t at e))
 pub passed : (fault : Bool) (a : Answer) → isDone a ≡ false → isDone (answerIf fault a) ≡ true → fault ≡ false
 passed true a n e = clash e n
 passed false a n e = refl
+
+-- checks 2 to 4, of a nexus that was found in a record of so many
+pub heard-found : (s : State) (n nexuses : ℕ) (nexus : Nexus) (a : Answer) → length (s .nexuses) ≡ nexuses → nexus ≡ nexusAt s n
+    → a ≡ firstOf (heard nexuses n (nexus .marks)) → a ≡ firstOf (heardOf s n)
+heard-found s n nexuses nexus a l e h = h ∙ ap₂ (λ (k : ℕ) (x : Nexus). firstOf (heard k n (x .marks))) (sym l) e
+
+-- a call's checks after the first: where the front of them finds a fault, theirs is the answer
+pub known-stops : (s : State) (call : Call) (front rest : List Answer) → checks s call ≡ front ++ rest → (a : Answer) → a ≡ firstOf front
+    → isDone a ≡ false → a ≡ knownAnswer s call
+unfolding knownAnswer
+known-stops s call front rest e a h f = h ∙ sym (ap firstOf e ∙ first-stops front rest (ap isDone (sym h) ∙ f))
+
+-- and where it finds none, that of the others
+pub known-passes : (s : State) (call : Call) (front rest : List Answer) → checks s call ≡ front ++ rest → (first a : Answer) → first ≡ firstOf front
+    → isDone first ≡ true → a ≡ firstOf rest → a ≡ knownAnswer s call
+unfolding knownAnswer
+known-passes s call front rest e first a h t r = r ∙ sym (ap firstOf e ∙ first-passes front rest (ap isDone (sym h) ∙ t))
 
 -- what a branch on a call's `is_done` tells
 pub fault-told : {b r : Bool} → r ≡ b → not r ≡ true → b ≡ false

@@ -5,23 +5,26 @@ use mathlib.Core.Path.{_≡_, refl, sym, ap, _∙_}
 use mathlib.Core.Bool.{Bool, true, false}
 use mathlib.Core.List.{List, [], _∷_, _++_}
 use borrow.Author.Tests.{leb-false}
+use lib.Dec.{eqb}
 use lib.ListN.{length, length-set, length-map}
 use lib.Seq.{set-getD}
 use Rattle.arrays.specs.Base.{if_then_else_}
 use Rattle.arrays.proofs.Base.{cases, clash, if-elim, if-false}
 use Rattle.arrays.proofs.Laws.{length-mapFrom}
-use Rattle.answer.specs.Answers.{isDone, changeOf}
+use Rattle.answer.specs.Answers.{numberOf, isDone, changeOf}
 use Rattle.answer.specs.declared.Answer.{Answer}
-use Rattle.answer.specs.declared.Answer.the-variants.{Done, NexusAbove, NoPlaceForLocal, KeyInstanceChanged, ParametersNotUsable}
+use Rattle.answer.specs.declared.Answer.the-variants.{Done, NexusAbove, NoPlaceForLocal, KeyInstanceChanged, ParametersNotUsable, BlockNotKnown, UnableToDecrypt, NotEncrypted, KeyIncorrect}
 use Rattle.answer.specs.declared.Change.{Change}
 use Rattle.answer.specs.declared.Change.the-variants.{Unchanged, AnotherCleared, VendorCleared, Registered}
 use Rattle.answer.proofs.Numbers.{done-is}
+use Rattle.parameters.specs.Codes.{disable, raw, decrypt}
 use Rattle.page.specs.declared.Page.{Page}
 use Rattle.device.specs.Record.{State, nexusAt, newNexus, powerOn}
 use Rattle.device.specs.Selecting.{selectedSet}
 use Rattle.device.specs.WellFormed.{wellFormed}
 use Rattle.device.specs.Updates.{withNexuses}
 use Rattle.device.specs.declared.Nexus.{Nexus}
+use Rattle.device.specs.declared.Set.{Set}
 use Rattle.marks.specs.Marks.{changes, flagged}
 use Rattle.marks.specs.Reset.{cleared}
 use Rattle.marks.specs.declared.Actor.{Actor}
@@ -29,12 +32,16 @@ use Rattle.marks.specs.declared.Actor.the-variants.{Nobody, Acting}
 use Rattle.places.specs.Actions.{noPlace, releases, releasedBy, taken}
 use Rattle.places.proofs.Lengths.{SameSize, size-stays, size-then, power-places, power-nexuses, acts-size, taken-size}
 use Rattle.drive.specs.declared.Command.{Command}
-use Rattle.drive.specs.Calls.{Call, powerUp, securityIn, securityOut, write, unitReset, happens, senderOf}
+use Rattle.drive.specs.declared.Block.{Block}
+use Rattle.drive.specs.declared.Verdict.{Verdict}
+use Rattle.drive.specs.declared.ReadDecision.the-variants.{Plain, Raw, Decrypted}
+use Rattle.drive.specs.Restoring.{plainKind, encryptedKind, noKey, passes, stopped, underMode, notKnown, restored, ownNumber}
+use Rattle.drive.specs.Calls.{Call, powerUp, securityIn, securityOut, write, read, unitReset, happens, senderOf}
 use Rattle.status.specs.Pages.{isOutPage}
 use Rattle.drive.specs.Checks.{answerIf, firstOf, pageChecked, check1, check10, instanceChanged, notUsable, heardOf, permitted, commandedOf, checks, recordCheck, answer, knownAnswer}
 use Rattle.drive.specs.Effects.{Effect, nothing, marks, takes, clears, releasing, restarts, doing, refusal, effectBy, effect}
 use Rattle.drive.specs.After.{changedBy, Telling, carriedOut, actorOf}
-use Rattle.drive.proofs.Checks.{all-done, passed, first-stops, first-passes}
+use Rattle.drive.proofs.Checks.{all-done, passed, first-stops, first-passes, last-is}
 
 -- ---- a record known to be well formed
 
@@ -44,6 +51,7 @@ formed-passes s powerUp w = refl
 formed-passes s (securityIn command) w = rw w
 formed-passes s (securityOut command page) w = rw w
 formed-passes s (write n supported) w = rw w
+formed-passes s (read n block) w = rw w
 formed-passes s unitReset w = rw w
 formed-passes s (happens event) w = rw w
 
@@ -115,6 +123,7 @@ doing-due s powerUp e = tt
 doing-due s (securityIn command) e = tt
 doing-due s (securityOut command page) e = taken-due s command page e
 doing-due s (write n supported) e = tt
+doing-due s (read n block) e = tt
 doing-due s unitReset e = tt
 doing-due s (happens event) e = tt
 
@@ -186,41 +195,77 @@ restarts-anyway s t powerUp = refl
 restarts-anyway s t (securityIn command) = other-restarts s (securityIn command) refl ∙ sym (other-restarts t (securityIn command) refl)
 restarts-anyway s t (securityOut command page) = other-restarts s (securityOut command page) refl ∙ sym (other-restarts t (securityOut command page) refl)
 restarts-anyway s t (write n supported) = other-restarts s (write n supported) refl ∙ sym (other-restarts t (write n supported) refl)
+restarts-anyway s t (read n block) = other-restarts s (read n block) refl ∙ sym (other-restarts t (read n block) refl)
 restarts-anyway s t unitReset = other-restarts s unitReset refl ∙ sym (other-restarts t unitReset refl)
 restarts-anyway s t (happens event) = other-restarts s (happens event) refl ∙ sym (other-restarts t (happens event) refl)
 
--- ---- a write
+-- ---- a write and a read: checks 1 to 4, then their own
+
+-- an answer that changes nothing does nothing
+quiet-nothing : (n : ℕ) (a : Answer) → changeOf a ≡ Unchanged → if isDone a then nothing else refusal (Acting n) (changeOf a) ≡ nothing
+quiet-nothing n a e = if-elim (λ x. x ≡ nothing) (isDone a) (λ t. refl) (λ f. ap (refusal (Acting n)) e)
+
+-- where their own change nothing, checks 1 to 4 alone decide what the call does
+heard-effect : (s : State) (n : ℕ) (own : List Answer) → changeOf (firstOf own) ≡ Unchanged → let a = firstOf ((check1 s ∷ heardOf s n) ++ own) in
+    if isDone a then nothing else refusal (Acting n) (changeOf a) ≡ refusal (Acting n) (changeOf (firstOf (check1 s ∷ heardOf s n)))
+heard-effect s n own quiet =
+    let first = check1 s ∷ heardOf s n in
+    cases (isDone (firstOf first))
+    (λ t.
+    ap (λ a. if isDone a then nothing else refusal (Acting n) (changeOf a)) (first-passes first own t) ∙ quiet-nothing n (firstOf own) quiet
+    ∙ ap (λ a. refusal (Acting n) (changeOf a)) (sym (done-is (firstOf first) t)))
+    (λ f. ap (λ a. if isDone a then nothing else refusal (Acting n) (changeOf a)) (first-stops first own f) ∙ if-false _ _ _ f)
+
+-- a write that passes checks 1 to 4 is answered by its own
+pub own-answer : (s : State) (n : ℕ) (supported : Bool) → isDone (firstOf (check1 s ∷ heardOf s n)) ≡ true
+    → answer s (write n supported) ≡ firstOf (permitted (nexusAt s n) (selectedSet s n) supported)
+unfolding answer checks
+own-answer s n supported = first-passes (check1 s ∷ heardOf s n) (permitted (nexusAt s n) (selectedSet s n) supported)
 
 -- checks 11 and 12 change nothing
-permitted-nothing : (n : ℕ) (a b : Bool) → let x = firstOf (answerIf a KeyInstanceChanged ∷ answerIf b ParametersNotUsable ∷ []) in if isDone x then nothing else refusal (Acting n) (changeOf x) ≡ nothing
-permitted-nothing n true b = refl
-permitted-nothing n false true = refl
-permitted-nothing n false false = refl
+permitted-quiet : (a b : Bool) → changeOf (firstOf (answerIf a KeyInstanceChanged ∷ answerIf b ParametersNotUsable ∷ [])) ≡ Unchanged
+permitted-quiet true b = refl
+permitted-quiet false true = refl
+permitted-quiet false false = refl
 
-module _ (s : State) (n : ℕ) (supported : Bool) where
-  abbrev first : Answer
-  first = firstOf (check1 s ∷ heardOf s n)
+pub write-effect : (s : State) (n : ℕ) (supported : Bool) → effect s (write n supported) ≡ refusal (Acting n) (changeOf (firstOf (check1 s ∷ heardOf s n)))
+unfolding effectBy answer checks
+write-effect s n supported =
+    heard-effect s n (permitted (nexusAt s n) (selectedSet s n) supported)
+    (permitted-quiet (instanceChanged (nexusAt s n) (selectedSet s n)) (notUsable (selectedSet s n) supported))
 
-  -- a write that passes checks 1 to 4 is answered by its own
-  pub own-answer : isDone first ≡ true → answer s (write n supported) ≡ firstOf (permitted (nexusAt s n) (selectedSet s n) supported)
-  unfolding answer checks
-  own-answer = first-passes (check1 s ∷ heardOf s n) (permitted (nexusAt s n) (selectedSet s n) supported)
+-- a read's own answers are 0 and 14 to 17, which change nothing
+pub record ReadVerdict (v : Verdict) : Type 0 where
+  pub own : ownNumber (numberOf (v .answer)) ≡ true
+  pub quiet : changeOf (v .answer) ≡ Unchanged
 
-  -- another by checks 1 to 4
-  first-answer : isDone first ≡ false → answer s (write n supported) ≡ first
-  unfolding answer checks
-  first-answer = first-stops (check1 s ∷ heardOf s n) (permitted (nexusAt s n) (selectedSet s n) supported)
+-- either of two
+either : (b : Bool) {x y : Verdict} → ReadVerdict x → ReadVerdict y → ReadVerdict (if b then x else y)
+either b p q = if-elim ReadVerdict b (λ t. p) (λ f. q)
 
-  -- and they alone decide what it does
-  pub write-effect : effect s (write n supported) ≡ refusal (Acting n) (changeOf first)
-  unfolding effectBy
-  write-effect =
-      cases (isDone first)
-      (λ t.
-      ap (λ a. if isDone a then nothing else refusal (Acting n) (changeOf a)) (own-answer t)
-      ∙ permitted-nothing n (instanceChanged (nexusAt s n) (selectedSet s n)) (notUsable (selectedSet s n) supported)
-      ∙ ap (λ a. refusal (Acting n) (changeOf a)) (sym (done-is first t)))
-      (λ f. ap (λ a. if isDone a then nothing else refusal (Acting n) (changeOf a)) (first-answer f) ∙ if-false _ _ _ f)
+pub restored-own : (set : Set) (block : Block) → ReadVerdict (restored set block)
+unfolding underMode
+restored-own set block =
+    let plain : ReadVerdict (passes Plain) = record { own = refl; quiet = refl } in
+    let asRaw : ReadVerdict (passes Raw) = record { own = refl; quiet = refl } in
+    let decrypted : ReadVerdict (passes Decrypted) = record { own = refl; quiet = refl } in
+    let unknown : ReadVerdict (stopped BlockNotKnown) = record { own = refl; quiet = refl } in
+    let unable : ReadVerdict (stopped UnableToDecrypt) = record { own = refl; quiet = refl } in
+    let notEncrypted : ReadVerdict (stopped NotEncrypted) = record { own = refl; quiet = refl } in
+    let incorrect : ReadVerdict (stopped KeyIncorrect) = record { own = refl; quiet = refl } in
+    let mode = set .fields .decryption in
+    let isPlain = eqb (block .kind) plainKind in
+    either (notKnown set block) unknown
+    (either (eqb mode disable) (either isPlain plain unable)
+    (either (eqb mode raw) (either isPlain plain asRaw)
+    (either isPlain (either (eqb mode decrypt) notEncrypted plain)
+    (either (eqb (block .kind) encryptedKind) (either (eqb (block .key) noKey) incorrect decrypted) unable))))
+
+pub read-effect : (s : State) (n : ℕ) (block : Block) → effect s (read n block) ≡ refusal (Acting n) (changeOf (firstOf (check1 s ∷ heardOf s n)))
+unfolding effectBy answer checks
+read-effect s n block =
+    let verdict = restored (selectedSet s n) block in
+    heard-effect s n (verdict .answer ∷ []) (ap changeOf (last-is (verdict .answer)) ∙ restored-own (selectedSet s n) block .quiet)
 
 -- ---- no effect changes the number of places or of nexuses
 

@@ -28,12 +28,12 @@ use Rattle.places.specs.declared.Event.{Event}
 use Rattle.places.specs.declared.Event.the-variants.{Demount, NexusLoss, DeviceLoss, Preempt, Microcode, VendorRelease}
 use Rattle.marks.specs.declared.Actor.the-variants.{Acting}
 use Rattle.drive.specs.declared.Command.{Command}
-use Rattle.drive.specs.Calls.{Call, powerUp, securityIn, securityOut, write, unitReset, happens}
+use Rattle.drive.specs.Calls.{Call, powerUp, securityIn, securityOut, write, read, unitReset, happens}
 use Rattle.status.specs.Pages.{isInPage, isOutPage}
 use Rattle.drive.specs.Checks.{answerIf, firstOf, check1, check5, check6, eventCheck, heard, heardOf, pageChecked, checks, answer}
 use Rattle.drive.specs.Effects.{Effect, nothing, marks, takes, clears, releasing, restarts, refusal, effectBy, effect}
 use Rattle.drive.specs.After.{actionsOf}
-use Rattle.drive.proofs.Effects.{write-effect}
+use Rattle.drive.proofs.Effects.{write-effect, read-effect}
 
 -- what two maps keep, of a set and of a nexus: what the rules read of them
 pub record Keeps (f : Set → Set) (g : Nexus → Nexus) : Type 0 where
@@ -221,5 +221,7 @@ module _ (f : Set → Set) (g : Nexus → Nexus) (k : Keeps f g) where
           ap₂ (λ a (p : Checked). if isDone a then takes (command .nexus) (p .page) else refusal (Acting (command .nexus)) (changeOf a)) (out-kept command page) (page-kept (command .nexus) page)
       effect-kept (write n supported) =
           write-effect t n supported ∙ ap (λ l. refusal (Acting n) (changeOf (firstOf l))) (heard-kept n) ∙ sym (write-effect s n supported)
+      effect-kept (read n block) =
+          read-effect t n block ∙ ap (λ l. refusal (Acting n) (changeOf (firstOf l))) (heard-kept n) ∙ sym (read-effect s n block)
       effect-kept unitReset = ap (λ a. if isDone a then clears else nothing) reset-kept
       effect-kept (happens event) = ap (λ a. if isDone a then releasing event else nothing) (event-kept event)

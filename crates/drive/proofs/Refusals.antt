@@ -12,7 +12,7 @@ use Rattle.arrays.proofs.Laws.{getD-set-by}
 use Rattle.arrays.proofs.Base.{if-false, clash}
 use Rattle.answer.specs.Answers.{rowOf, numberOf, isDone, changeOf}
 use Rattle.answer.specs.declared.Answer.{Answer}
-use Rattle.answer.specs.declared.Answer.the-variants.{Done, NotWellFormed, NexusAbove, ChangedByAnotherNexus, ChangedByVendorEvent, ProtocolNotSupported, PageNotSupported, PageLengthWrong, FieldWrong, FifthSupplementalKey, NoPlaceForLocal, KeyInstanceChanged, ParametersNotUsable, PlaceAbove}
+use Rattle.answer.specs.declared.Answer.the-variants.{Done, NotWellFormed, NexusAbove, ChangedByAnotherNexus, ChangedByVendorEvent, ProtocolNotSupported, PageNotSupported, PageLengthWrong, FieldWrong, FifthSupplementalKey, NoPlaceForLocal, KeyInstanceChanged, ParametersNotUsable, PlaceAbove, BlockNotKnown, UnableToDecrypt, NotEncrypted, KeyIncorrect}
 use Rattle.answer.specs.declared.Change.{Change}
 use Rattle.device.specs.Record.{State, nexusAt, newNexus}
 use Rattle.device.specs.Updates.{withNexuses}
@@ -20,11 +20,12 @@ use Rattle.device.specs.declared.Nexus.{Nexus}
 use Rattle.marks.specs.Marks.{remarked, changed, changes, isActor}
 use Rattle.marks.specs.declared.Actor.{Actor}
 use Rattle.marks.specs.declared.Actor.the-variants.{Nobody, Acting}
-use Rattle.drive.specs.Calls.{Call, securityIn, write, senderOf}
+use Rattle.drive.specs.Calls.{Call, securityIn, write, read, senderOf}
 use Rattle.drive.specs.Checks.{answer}
 use Rattle.drive.specs.Effects.{Effect, doing, refusal, effectBy}
 use Rattle.drive.specs.After.{Telling, byNumber, carriedOut, changedBy, after}
 use Rattle.drive.specs.declared.Decision.the-variants.{Refused}
+use Rattle.drive.specs.declared.ReadDecision.the-variants.{Withheld}
 use Rattle.drive.specs.Refusals.{changesBy, Remarked, OnlyMarks, rowAt, Carries}
 use Rattle.drive.proofs.Effects.{refusal-changes}
 
@@ -84,7 +85,7 @@ refusals-keep s call f =
 -- ---- the answer
 
 -- each stands in the table
-in-table : (a : Answer) → (numberOf a ≤ 13) × (rowOf a ≡ rowAt (numberOf a))
+in-table : (a : Answer) → (numberOf a ≤ 17) × (rowOf a ≡ rowAt (numberOf a))
 in-table Done = (omega arith, refl)
 in-table NotWellFormed = (omega arith, refl)
 in-table NexusAbove = (omega arith, refl)
@@ -99,13 +100,18 @@ in-table NoPlaceForLocal = (omega arith, refl)
 in-table KeyInstanceChanged = (omega arith, refl)
 in-table ParametersNotUsable = (omega arith, refl)
 in-table PlaceAbove = (omega arith, refl)
+in-table BlockNotKnown = (omega arith, refl)
+in-table UnableToDecrypt = (omega arith, refl)
+in-table NotEncrypted = (omega arith, refl)
+in-table KeyIncorrect = (omega arith, refl)
 
--- Every call is answered with a number of document 01's table, at most 13, with the sense and the change of that row. A refused IN tells
--- length 0 and writes no byte; a refused write carries no decision, place 0 and index 0.
+-- Every call is answered with a number of the table, at most 17, with the sense and the change of that row. A refused IN tells length 0
+-- and writes no byte; a refused write carries no decision, place 0 and index 0, a refused read no decision and place 0.
 pub every-call-answers : (s : State) → Carries s
 every-call-answers s = record {
   number = λ call. in-table (answer s call) .0;
   row = λ call. in-table (answer s call) .1;
   inward = λ command buffer f. let b = isDone (answer s (securityIn command)) in (if-false b _ 0 f, if-false b _ buffer f);
   writing = λ n supported f. let b = isDone (answer s (write n supported)) in (if-false b _ Refused f, (if-false b _ 0 f, if-false b _ 0 f));
+  reading = λ n block f. let b = isDone (answer s (read n block)) in (if-false b _ Withheld f, if-false b _ 0 f);
 }

@@ -1,9 +1,10 @@
--- The calls of document 01. An event is any that may release sets.
+-- The calls of document 01, and the read of document 02. An event is any that may release sets.
 use Prim.Native.Nat.{ℕ}
 use mathlib.Core.Bool.{Bool}
 use mathlib.Core.List.{List}
 use Rattle.places.specs.declared.Event.{Event}
 use Rattle.drive.specs.declared.Command.{Command}
+use Rattle.drive.specs.declared.Block.{Block}
 use Rattle.marks.specs.declared.Actor.{Actor}
 use Rattle.marks.specs.declared.Actor.the-variants.{Nobody, Acting}
 
@@ -12,14 +13,16 @@ pub data Call : Type 0 where
   securityIn : Command → Call
   securityOut : Command → (page : List ℕ) → Call
   write : (nexus : ℕ) (supported : Bool) → Call
+  read : (nexus : ℕ) → Block → Call
   unitReset : Call
   happens : Event → Call
 
--- the nexus that sends a security command or a write; other calls have none
+-- the nexus that sends a security command, a write or a read; other calls have none
 abbrev pub senderOf : Call → Actor
 senderOf powerUp = Nobody
 senderOf (securityIn command) = Acting (command .nexus)
 senderOf (securityOut command page) = Acting (command .nexus)
 senderOf (write n supported) = Acting n
+senderOf (read n block) = Acting n
 senderOf unitReset = Nobody
 senderOf (happens event) = Nobody

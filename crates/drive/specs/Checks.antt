@@ -20,7 +20,8 @@ use Rattle.device.specs.declared.Set.{Set}
 use Rattle.device.specs.declared.Nexus.{Nexus}
 use Rattle.status.specs.Pages.{isInPage, isOutPage}
 use Rattle.drive.specs.declared.Command.{Command}
-use Rattle.drive.specs.Calls.{Call, powerUp, securityIn, securityOut, write, unitReset, happens}
+use Rattle.drive.specs.Calls.{Call, powerUp, securityIn, securityOut, write, read, unitReset, happens}
+use Rattle.drive.specs.Restoring.{restored}
 use Rattle.places.specs.Actions.{noPlace}
 use Rattle.places.specs.declared.Event.{Event}
 use Rattle.places.specs.declared.Event.the-variants.{Demount, NexusLoss, DeviceLoss, Preempt, Microcode, VendorRelease}
@@ -88,7 +89,8 @@ eventCheck nexuses places (Preempt n) = check2 nexuses n
 eventCheck nexuses places Microcode = Done
 eventCheck nexuses places (VendorRelease place) = check13 places place
 
--- checks 2 to 4, of nexus n with these marks, where there are that many: "Numbers 3 and 4 apply to security commands and writes"
+-- checks 2 to 4, of nexus n with these marks, where there are that many: "Numbers 3 and 4 apply to security commands and writes", and to
+-- reads (document 02, request 1: "after 3 and 4")
 abbrev pub heard : ℕ → ℕ → Marks → List Answer
 heard nexuses n marks = check2 nexuses n ∷ check3 marks ∷ check4 marks ∷ []
 
@@ -107,7 +109,7 @@ heardOf s n = heard (length (s .nexuses)) n (nexusAt s n .marks)
 abbrev pub commandedOf : State → Command → Bool → List Answer
 commandedOf s command supported = commanded (length (s .nexuses)) command (nexusAt s (command .nexus) .marks) supported
 
--- the checks after the first, in number order
+-- the checks after the first, in number order; "The lock doesn't stop reads."
 unfoldable pub checks : State → Call → List Answer
 checks s powerUp = []
 checks s (securityIn command) = commandedOf s command (isInPage (command .code))
@@ -115,6 +117,7 @@ checks s (securityOut command page) =
     let read = pageChecked s (command .nexus) page in
     commandedOf s command (isOutPage (command .code)) ++ read .answer ∷ check10 s (command .nexus) (read .page) ∷ []
 checks s (write n supported) = heardOf s n ++ permitted (nexusAt s n) (selectedSet s n) supported
+checks s (read n block) = heardOf s n ++ restored (selectedSet s n) block .answer ∷ []
 checks s unitReset = []
 checks s (happens event) = eventCheck (length (s .nexuses)) (length (s .sets)) event ∷ []
 
@@ -124,6 +127,7 @@ recordCheck s powerUp = Done
 recordCheck s (securityIn command) = check1 s
 recordCheck s (securityOut command page) = check1 s
 recordCheck s (write n supported) = check1 s
+recordCheck s (read n block) = check1 s
 recordCheck s unitReset = check1 s
 recordCheck s (happens event) = check1 s
 

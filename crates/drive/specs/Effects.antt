@@ -10,7 +10,7 @@ use Rattle.device.specs.Record.{State}
 use Rattle.marks.specs.declared.Actor.{Actor}
 use Rattle.marks.specs.declared.Actor.the-variants.{Nobody, Acting}
 use Rattle.places.specs.declared.Event.{Event}
-use Rattle.drive.specs.Calls.{Call, powerUp, securityIn, securityOut, write, unitReset, happens, senderOf}
+use Rattle.drive.specs.Calls.{Call, powerUp, securityIn, securityOut, write, read, unitReset, happens, senderOf}
 use Rattle.drive.specs.Checks.{pageChecked, answer}
 
 pub data Effect : Type 0 where
@@ -27,6 +27,7 @@ doing s powerUp = restarts
 doing s (securityIn command) = marks (command .nexus) Registered
 doing s (securityOut command page) = takes (command .nexus) (pageChecked s (command .nexus) page .page)
 doing s (write n supported) = nothing
+doing s (read n block) = nothing
 doing s unitReset = clears
 doing s (happens event) = releasing event
 

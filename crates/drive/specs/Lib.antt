@@ -1,4 +1,5 @@
 pub mod Calls
+pub mod Restoring
 pub mod Checks
 pub mod Effects
 pub mod After

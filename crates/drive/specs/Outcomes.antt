@@ -15,6 +15,10 @@ use Rattle.status.specs.Status.{statusBytes, statusOf}
 use Rattle.drive.specs.declared.Command.{Command}
 use Rattle.drive.specs.declared.Decision.{Decision}
 use Rattle.drive.specs.declared.Decision.the-variants.{Refused, Clear, External, Encrypted}
+use Rattle.drive.specs.declared.Block.{Block}
+use Rattle.drive.specs.declared.ReadDecision.{ReadDecision}
+use Rattle.drive.specs.declared.ReadDecision.the-variants.{Withheld}
+use Rattle.drive.specs.Restoring.{restored}
 
 -- Document 01, "Response pages": the page of a code
 unfoldable pub responsePage : State → ℕ → ℕ → List ℕ
@@ -52,3 +56,7 @@ decidedPlace s n a = if isDone a then selected s n else 0
 
 abbrev pub decidedIndex : State → ℕ → Answer → ℕ
 decidedIndex s n a = if isDone a then selectedSet s n .fields .index else 0
+
+-- a read: plain, raw or decrypted, with the same place; a refused one carries neither
+abbrev pub readDecision : State → ℕ → Block → Answer → ReadDecision
+readDecision s n block a = if isDone a then restored (selectedSet s n) block .decision else Withheld

@@ -16,9 +16,11 @@ use Rattle.marks.specs.declared.Actor.{Actor}
 use Rattle.marks.specs.declared.Actor.the-variants.{Nobody, Acting}
 use Rattle.drive.specs.declared.Command.{Command}
 use Rattle.drive.specs.declared.Decision.the-variants.{Refused}
-use Rattle.drive.specs.Calls.{Call, securityIn, write}
+use Rattle.drive.specs.declared.Block.{Block}
+use Rattle.drive.specs.declared.ReadDecision.the-variants.{Withheld}
+use Rattle.drive.specs.Calls.{Call, securityIn, write, read}
 use Rattle.drive.specs.Checks.{answer}
-use Rattle.drive.specs.Outcomes.{inLength, inBuffer, decision, decidedPlace, decidedIndex}
+use Rattle.drive.specs.Outcomes.{inLength, inBuffer, decision, decidedPlace, decidedIndex, readDecision}
 
 -- the record with a change in its sender's marks; where there is no sender, the record
 abbrev pub changesBy : Actor → Change → State → State
@@ -43,14 +45,14 @@ pub record OnlyMarks (sender : Actor) (change : Change) (before after : State) :
   pub nobody : sender ≡ Nobody → after ≡ before
   pub above : (n : ℕ) → isActor sender n ≡ true → length (before .nexuses) ≤ n → after ≡ before
 
--- the row of a number in document 01's table
+-- the row of a number in the table
 abbrev pub rowAt : ℕ → Row
 rowAt number = getD printed number (row 0 0 0 0 Unchanged)
 
--- what an answer carries, of a record: its number is that of one of those 14 rows, whose sense and change are its own;
+-- what an answer carries, of a record: its number is that of one of those 18 rows, whose sense and change are its own;
 -- "A refused answer carries its number and sense only"
 pub record Carries (s : State) : Type 0 where
-  pub number : (call : Call) → numberOf (answer s call) ≤ 13
+  pub number : (call : Call) → numberOf (answer s call) ≤ 17
   pub row : (call : Call) → rowOf (answer s call) ≡ rowAt (numberOf (answer s call))
   pub inward :
       (command : Command) (buffer : List ℕ) → let a = answer s (securityIn command) in
@@ -58,3 +60,6 @@ pub record Carries (s : State) : Type 0 where
   pub writing :
       (n : ℕ) (supported : Bool) → let a = answer s (write n supported) in
       isDone a ≡ false → (decision s n a ≡ Refused) × ((decidedPlace s n a ≡ 0) × (decidedIndex s n a ≡ 0))
+  pub reading :
+      (n : ℕ) (block : Block) → let a = answer s (read n block) in
+      isDone a ≡ false → (readDecision s n block a ≡ Withheld) × (decidedPlace s n a ≡ 0)

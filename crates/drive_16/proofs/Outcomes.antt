@@ -19,20 +19,23 @@ use Rattle.device.specs.WellFormed.{wellFormed}
 use Rattle.device.specs.Selecting.{selected, selectedSet}
 use Rattle.marks.specs.Marks.{changes}
 use Rattle.marks.specs.declared.Actor.the-variants.{Nobody, Acting}
-use Rattle.drive.specs.Calls.{Call, securityIn, securityOut, write, happens, senderOf}
+use Rattle.drive.specs.Calls.{Call, securityIn, securityOut, write, read, happens, senderOf}
 use Rattle.places.specs.Actions.{noPlace, spared, releasedBy}
 use Rattle.places.specs.declared.Event.{Event}
 use Rattle.drive.specs.Checks.{check1, check10, recordCheck, pageChecked, answer, eventCheck, knownAnswer, checks}
 use Rattle.drive.specs.Effects.{takes, doing, refusal, effectBy, releasing}
 use Rattle.drive.specs.After.{byNumber, changedBy, carriedOut}
-use Rattle.drive.specs.Outcomes.{responsePage, inLength, inBuffer, decided, decision, decidedPlace, decidedIndex}
+use Rattle.drive.specs.Outcomes.{responsePage, inLength, inBuffer, decided, decision, decidedPlace, decidedIndex, readDecision}
 use Rattle.drive.specs.declared.Command.{Command}
 use Rattle.drive.specs.declared.Decision.the-variants.{Refused}
+use Rattle.drive.specs.declared.Block.{Block}
+use Rattle.drive.specs.declared.ReadDecision.the-variants.{Withheld}
+use Rattle.drive.specs.Restoring.{restored}
 use Rattle.drive.proofs.Checks.{last-is}
 use Rattle.drive.proofs.Effects.{refusal-changes}
 use Rattle.drive.proofs.Events.{event-none}
 use Rattle.device_16.specs.Model.{device}
-use Rattle.drive_16.specs.Outcomes.{deviceBy, outcomeBy, inOutcomeBy, writeOutcomeBy, refusedCall, refusedIn, refusedWrite, unchanged, pageOutcome}
+use Rattle.drive_16.specs.Outcomes.{deviceBy, outcomeBy, inOutcomeBy, writeOutcomeBy, readOutcomeBy, refusedCall, refusedIn, refusedWrite, refusedRead, unchanged, pageOutcome}
 
 -- a record that is not well formed is answered 1, by every call that takes one
 pub not-formed : (s : State) (call : Call) → recordCheck s call ≡ check1 s → wellFormed s ≡ false → NotWellFormed ≡ answer s call
@@ -114,6 +117,24 @@ module _ (s : State) (n : ℕ) (supported : Bool) (a : Answer) where
       let where-it-is : selected s n ≡ decidedPlace s n a = sym (simp t) in
       let under : selectedSet s n .fields .index ≡ decidedIndex s n a = sym (simp t) in
       λ i. record { device = device-done s (write n supported) a t i; answer = a; sense = senseOf (e i); decision = made i; place = where-it-is i; index = under i }
+
+-- the read decision
+module _ (s : State) (n : ℕ) (block : Block) (a : Answer) where
+  pub read-refused : isDone a ≡ false → refusedRead s n a ≡ readOutcomeBy s n block a
+  unfolding readOutcomeBy
+  read-refused f =
+      let none : Withheld ≡ readDecision s n block a = sym (simp f) in
+      let nowhere : 0 ≡ decidedPlace s n a = sym (simp f) in
+      λ i. record { device = device-refused s (read n block) a n refl f i; answer = a; sense = senseOf a; decision = none i; place = nowhere i }
+
+  pub read-done : isDone a ≡ true
+      → record { device = device s; answer = a; sense = senseOf Done; decision = restored (selectedSet s n) block .decision; place = selected s n } ≡ readOutcomeBy s n block a
+  unfolding readOutcomeBy carriedOut changedBy
+  read-done t =
+      let e : Done ≡ a = sym (done-is a t) in
+      let made : restored (selectedSet s n) block .decision ≡ readDecision s n block a = sym (simp t) in
+      let where-it-is : selected s n ≡ decidedPlace s n a = sym (simp t) in
+      λ i. record { device = device-done s (read n block) a t i; answer = a; sense = senseOf (e i); decision = made i; place = where-it-is i }
 
 -- a page that passed its check is answered by check 10
 pub page-decides : (s : State) (command : Command) (bytes : List ℕ) (a : Answer) → a ≡ check10 s (command .nexus) (pageChecked s (command .nexus) bytes .page)

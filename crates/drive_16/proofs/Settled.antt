@@ -17,6 +17,10 @@ use Rattle.drive_16.proofs.write_known.Reads as write-known
 use Rattle.drive_16.proofs.write_known.Kinds as write-known-kinds
 use Rattle.drive_16.proofs.write.Reads as write
 use Rattle.drive_16.proofs.write.Kinds as write-kinds
+use Rattle.drive_16.proofs.read_known.Reads as read-known
+use Rattle.drive_16.proofs.read_known.Kinds as read-known-kinds
+use Rattle.drive_16.proofs.read.Reads as read
+use Rattle.drive_16.proofs.read.Kinds as read-kinds
 use Rattle.drive_16.proofs.unit_reset_known.Reads as unit-reset-known
 use Rattle.drive_16.proofs.unit_reset_known.Kinds as unit-reset-known-kinds
 use Rattle.drive_16.proofs.unit_reset.Reads as unit-reset
@@ -46,6 +50,12 @@ write-known-settles κs a x y s t p q = same p q
 
 pub write-settles : SettlesAnswer 0 write-kinds.ps write-kinds.r write.Post
 write-settles κs a x y s t p q = same p q
+
+pub read-known-settles : SettlesAnswer 0 read-known-kinds.ps read-known-kinds.r read-known.Post
+read-known-settles κs a x y s t p q = same p q
+
+pub read-settles : SettlesAnswer 0 read-kinds.ps read-kinds.r read.Post
+read-settles κs a x y s t p q = same p q
 
 pub unit-reset-known-settles : SettlesAnswer 0 unit-reset-known-kinds.ps unit-reset-known-kinds.r unit-reset-known.Post
 unit-reset-known-settles κs a x y s t p q = same p q

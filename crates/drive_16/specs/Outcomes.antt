@@ -1,4 +1,4 @@
--- What each public call of this model gives back. a is the call's answer; "A refusedCall answer carries its number and sense only."
+-- What each public call of this model gives back. a is the call's answer; "A refused answer carries its number and sense only."
 use Prim.Native.Nat.{ℕ}
 use mathlib.Core.Bool.{Bool}
 use Rattle.arrays.specs.Base.{if_then_else_}
@@ -9,19 +9,22 @@ use Rattle.page.specs.declared.Page.{Page}
 use Rattle.device.specs.Record.{State, powerOn}
 use Rattle.marks.specs.Marks.{changes}
 use Rattle.places.specs.Actions.{noPlace}
-use Rattle.drive.specs.Calls.{Call, securityIn, write}
+use Rattle.drive.specs.Calls.{Call, securityIn, write, read}
 use Rattle.drive.specs.Checks.{answer, knownAnswer}
 use Rattle.drive.specs.Effects.{takes, effectBy}
 use Rattle.drive.specs.After.{byNumber, carriedOut}
-use Rattle.drive.specs.Outcomes.{inLength, decision, decidedPlace, decidedIndex}
+use Rattle.drive.specs.Outcomes.{inLength, decision, decidedPlace, decidedIndex, readDecision}
 use Rattle.drive.specs.declared.Command.{Command}
 use Rattle.drive.specs.declared.Decision.the-variants.{Refused}
+use Rattle.drive.specs.declared.Block.{Block}
+use Rattle.drive.specs.declared.ReadDecision.the-variants.{Withheld}
 use Rattle.sizes_16.specs.Sizes.{nexusCount, placeCount}
 use Rattle.device_16.specs.Model.{device}
 use Rattle.device_16.specs.declared.Device.{Device}
 use Rattle.drive_16.specs.declared.Outcome.{Outcome}
 use Rattle.drive_16.specs.declared.InOutcome.{InOutcome}
 use Rattle.drive_16.specs.declared.WriteOutcome.{WriteOutcome}
+use Rattle.drive_16.specs.declared.ReadOutcome.{ReadOutcome}
 
 -- "Power-on takes no record, answers 0 and gives all zeros"
 abbrev pub poweredOn : Outcome
@@ -53,6 +56,15 @@ writeOutcomeBy s n supported a = record {
   index = decidedIndex s n a;
 }
 
+unfoldable pub readOutcomeBy : State → ℕ → Block → Answer → ReadOutcome
+readOutcomeBy s n block a = record {
+  device = deviceBy s (read n block) a;
+  answer = a;
+  sense = senseOf a;
+  decision = readDecision s n block a;
+  place = decidedPlace s n a;
+}
+
 abbrev pub outcome : State → Call → Outcome
 outcome s call = outcomeBy s call (answer s call)
 
@@ -61,6 +73,9 @@ inOutcome s command = inOutcomeBy s command (answer s (securityIn command))
 
 abbrev pub writeOutcome : State → ℕ → Bool → WriteOutcome
 writeOutcome s n supported = writeOutcomeBy s n supported (answer s (write n supported))
+
+abbrev pub readOutcome : State → ℕ → Block → ReadOutcome
+readOutcome s n block = readOutcomeBy s n block (answer s (read n block))
 
 -- the same of a record that is known to be well formed: check 1 isn't made
 abbrev pub knownOutcome : State → Call → Outcome
@@ -72,9 +87,12 @@ knownInOutcome s command = inOutcomeBy s command (knownAnswer s (securityIn comm
 abbrev pub knownWriteOutcome : State → ℕ → Bool → WriteOutcome
 knownWriteOutcome s n supported = writeOutcomeBy s n supported (knownAnswer s (write n supported))
 
+abbrev pub knownReadOutcome : State → ℕ → Block → ReadOutcome
+knownReadOutcome s n block = readOutcomeBy s n block (knownAnswer s (read n block))
+
 -- ---- parts of these, as the code makes them
 
--- a refusedCall call: what the row of its answer says of nexus n's marks
+-- a refused call: what the row of its answer says of nexus n's marks
 abbrev pub refusedCall : State → ℕ → Answer → Outcome
 refusedCall s n a = record { device = device (changes s n (changeOf a)); answer = a; sense = senseOf a }
 
@@ -84,6 +102,10 @@ refusedIn s n a = record { device = device (changes s n (changeOf a)); answer = 
 abbrev pub refusedWrite : State → ℕ → Answer → WriteOutcome
 refusedWrite s n a =
     record { device = device (changes s n (changeOf a)); answer = a; sense = senseOf a; decision = Refused; place = 0; index = 0 }
+
+abbrev pub refusedRead : State → ℕ → Answer → ReadOutcome
+refusedRead s n a =
+    record { device = device (changes s n (changeOf a)); answer = a; sense = senseOf a; decision = Withheld; place = 0 }
 
 -- one without a sender
 abbrev pub unchanged : State → Answer → Outcome

@@ -1,11 +1,13 @@
-// The drive of this model: every call of document 01. The device goes in by value and comes back beside the answer.
+// The drive of this model: every call of document 01, and the read of document 02. The device goes in by value and comes back beside the answer.
 // Each call has a part after check 1, which a caller may use whose record is known to be well formed.
 use answer::Answer;
 use answer::Change;
 use answer::Sense;
 use device_16::Device;
+use drive::Block;
 use drive::Command;
 use drive::Decision;
+use drive::ReadDecision;
 use marks::Actor;
 use page::Checked;
 use page::Page;
@@ -21,7 +23,7 @@ ghost use Rattle.drive.specs.Checks.{firstOf, commandedOf, pageChecked, answer,
 ghost use Rattle.drive.specs.Effects.{releasing};
 ghost use Rattle.drive.specs.After.{byNumber, carriedOut};
 ghost use Rattle.drive.specs.Outcomes.{responsePage, inBuffer};
-ghost use Rattle.drive_16.specs.Outcomes.{poweredOn, outcome, inOutcome, writeOutcome, knownOutcome, knownInOutcome, knownWriteOutcome, refusedCall, refusedIn, refusedWrite, unchanged, pageOutcome};
+ghost use Rattle.drive_16.specs.Outcomes.{poweredOn, outcome, inOutcome, writeOutcome, readOutcome, knownOutcome, knownInOutcome, knownWriteOutcome, knownReadOutcome, refusedCall, refusedIn, refusedWrite, refusedRead, unchanged, pageOutcome};
 
 // The device stands first in each outcome: after a byte and its padding the compiler copies it twice more.
 pub struct Outcome {
@@ -46,6 +48,15 @@ pub struct WriteOutcome {
     pub decision: Decision,
     pub place: usize,
     pub index: u8,
+}
+
+// place is that of the set in use, 0 where refused.
+pub struct ReadOutcome {
+    pub device: Device,
+    pub answer: Answer,
+    pub sense: Sense,
+    pub decision: ReadDecision,
+    pub place: usize,
 }
 
 // Power-on takes no record, answers 0 and gives all zeros.
@@ -257,6 +268,58 @@ pub fn write(d: Device, n: u8, supported: bool) -> WriteOutcome
         return refuse_write(d, n, Answer::NotWellFormed);
     }
     write_known(d, n, supported)
+}
+
+fn refuse_read(d: Device, n: u8, answer: Answer) -> ReadOutcome
+    ensures { λ r. ⌜ r ≡ refusedRead (state d) n answer ⌝ }
+{
+    let refusedCall = refuse(d, n, answer);
+    let after = refusedCall.device;
+    let sense = refusedCall.sense;
+    ReadOutcome {
+        device: after,
+        answer,
+        sense,
+        decision: ReadDecision::Withheld,
+        place: 0,
+    }
+}
+
+// The read decision, after check 1.
+pub fn read_known(d: Device, n: u8, block: Block) -> ReadOutcome
+    ensures { λ r. ⌜ r ≡ knownReadOutcome (state d) n block ⌝ }
+{
+    let nexus = device_16::nexus_at(d, n as usize);
+    let marks = nexus.marks;
+    let heard = drive_code::hear(n, marks, NEXUSES);
+    if !answer_code::is_done(heard) {
+        return refuse_read(d, n, heard);
+    }
+    let sets = d.sets;
+    let place = device_16::place_of(nexus, n as usize, sets);
+    let verdict = drive_code::restore(sets[place], block);
+    let answer = verdict.answer;
+    if !answer_code::is_done(answer) {
+        return refuse_read(d, n, answer);
+    }
+    let decision = verdict.decision;
+    ReadOutcome {
+        device: d,
+        answer,
+        sense: Sense::NONE,
+        decision,
+        place,
+    }
+}
+
+// The read decision.
+pub fn read(d: Device, n: u8, block: Block) -> ReadOutcome
+    ensures { λ r. ⌜ r ≡ readOutcome (state d) n block ⌝ }
+{
+    if !device_16::well_formed(d) {
+        return refuse_read(d, n, Answer::NotWellFormed);
+    }
+    read_known(d, n, block)
 }
 
 // A call that changes nothing, answered.

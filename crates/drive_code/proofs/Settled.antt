@@ -10,6 +10,12 @@ use Rattle.drive_code.proofs.decide.Reads as decide
 use Rattle.drive_code.proofs.decide.Kinds as decide-kinds
 use Rattle.drive_code.proofs.value_of.Reads as value-of
 use Rattle.drive_code.proofs.value_of.Kinds as value-of-kinds
+use Rattle.drive_code.proofs.block_of.Reads as block-of
+use Rattle.drive_code.proofs.block_of.Kinds as block-of-kinds
+use Rattle.drive_code.proofs.restore.Reads as restore
+use Rattle.drive_code.proofs.restore.Kinds as restore-kinds
+use Rattle.drive_code.proofs.read_value_of.Reads as read-value-of
+use Rattle.drive_code.proofs.read_value_of.Kinds as read-value-of-kinds
 use Rattle.drive_code.proofs.check_event.Reads as check-event
 use Rattle.drive_code.proofs.check_event.Kinds as check-event-kinds
 use Rattle.drive_code.proofs.actor_of.Reads as actor-of
@@ -29,6 +35,15 @@ decide-settles κs a x y s t p q = same p q
 
 pub value-of-settles : SettlesAnswer 0 value-of-kinds.ps value-of-kinds.r value-of.Post
 value-of-settles κs a x y s t p q = same p q
+
+pub block-of-settles : SettlesAnswer 0 block-of-kinds.ps block-of-kinds.r block-of.Post
+block-of-settles κs a x y s t p q = same p q
+
+pub restore-settles : SettlesAnswer 0 restore-kinds.ps restore-kinds.r restore.Post
+restore-settles κs a x y s t p q = same p q
+
+pub read-value-of-settles : SettlesAnswer 0 read-value-of-kinds.ps read-value-of-kinds.r read-value-of.Post
+read-value-of-settles κs a x y s t p q = same p q
 
 pub check-event-settles : SettlesAnswer 0 check-event-kinds.ps check-event-kinds.r check-event.Post
 check-event-settles κs a x y s t p q = same p q

@@ -3,15 +3,25 @@ use answer::Answer;
 use device::Marks;
 use device::Nexus;
 use device::Set;
+use drive::Block;
 use drive::Command;
 use drive::Decision;
+use drive::ENCRYPTED_KIND;
+use drive::NO_KEY;
+use drive::OTHER_KIND;
+use drive::PLAIN_KIND;
+use drive::ReadDecision;
+use drive::Verdict;
 use marks::Actor;
+use parameters::DECRYPT;
 use parameters::DISABLE;
 use parameters::ENCRYPT;
 use parameters::EXTERNAL;
+use parameters::RAW;
 use places::Event;
 ghost use mathlib.Core.Path.{_≡_};
 ghost use Rattle.drive.specs.Checks.{firstOf, check2, check13, heard, commanded, permitted, eventCheck};
+ghost use Rattle.drive.specs.Restoring.{blockOf, passes, stopped, underDisable, underRaw, plainUnder, encryptedUnder, underMode, notKnown, restored, readValueOf};
 ghost use Rattle.drive.specs.After.{actorOf};
 ghost use Rattle.drive.specs.Outcomes.{decided, valueOf};
 
@@ -98,7 +108,7 @@ pub fn decide(mode: u8) -> Decision
     Decision::Encrypted
 }
 
-// The decision's value in a reply.
+// The write decision's value in a reply.
 pub fn value_of(decision: Decision) -> u8
     ensures { λ r. ⌜ r ≡ valueOf decision ⌝ }
 {
@@ -107,6 +117,126 @@ pub fn value_of(decision: Decision) -> u8
         Decision::Clear => 0,
         Decision::External => 1,
         Decision::Encrypted => 2,
+    }
+}
+
+// A block as one number: kind times 256 plus key.
+pub fn block_of(argument: u16) -> Block
+    ensures { λ r. ⌜ r ≡ blockOf argument ⌝ }
+{
+    Block {
+        kind: (argument / 256) as u8,
+        key: (argument % 256) as u8,
+    }
+}
+
+// A read that passes.
+fn pass(decision: ReadDecision) -> Verdict
+    ensures { λ r. ⌜ r ≡ passes decision ⌝ }
+{
+    Verdict {
+        answer: Answer::Done,
+        decision,
+    }
+}
+
+// A read that is stopped.
+fn stop(answer: Answer) -> Verdict
+    ensures { λ r. ⌜ r ≡ stopped answer ⌝ }
+{
+    Verdict {
+        answer,
+        decision: ReadDecision::Withheld,
+    }
+}
+
+// "Under DISABLE plain passes and others get 15."
+fn under_disable(kind: u8) -> Verdict
+    ensures { λ r. ⌜ r ≡ underDisable kind ⌝ }
+{
+    if kind == PLAIN_KIND {
+        return pass(ReadDecision::Plain);
+    }
+    stop(Answer::UnableToDecrypt)
+}
+
+// "RAW passes all, kinds 1 and 2 as raw."
+fn under_raw(kind: u8) -> Verdict
+    ensures { λ r. ⌜ r ≡ underRaw kind ⌝ }
+{
+    if kind == PLAIN_KIND {
+        return pass(ReadDecision::Plain);
+    }
+    pass(ReadDecision::Raw)
+}
+
+// "DECRYPT gives 16 for plain; MIXED passes it."
+fn plain_under(mode: u8) -> Verdict
+    ensures { λ r. ⌜ r ≡ plainUnder mode ⌝ }
+{
+    if mode == DECRYPT {
+        return stop(Answer::NotEncrypted);
+    }
+    pass(ReadDecision::Plain)
+}
+
+// "In both, kind 1 is decrypted if a key opened it, else 17; kind 2 gives 15."
+fn encrypted_under(block: Block) -> Verdict
+    ensures { λ r. ⌜ r ≡ encryptedUnder block ⌝ }
+{
+    if block.kind != ENCRYPTED_KIND {
+        return stop(Answer::UnableToDecrypt);
+    }
+    if block.key == NO_KEY {
+        return stop(Answer::KeyIncorrect);
+    }
+    pass(ReadDecision::Decrypted)
+}
+
+// A block read, by decryption mode.
+fn under_mode(mode: u8, block: Block) -> Verdict
+    ensures { λ r. ⌜ r ≡ underMode mode block ⌝ }
+{
+    if mode == DISABLE {
+        return under_disable(block.kind);
+    }
+    if mode == RAW {
+        return under_raw(block.kind);
+    }
+    if block.kind == PLAIN_KIND {
+        return plain_under(mode);
+    }
+    encrypted_under(block)
+}
+
+// Check 14: a kind above 2, or a key that is neither none nor the set's.
+fn not_known(set: Set, block: Block) -> bool
+    ensures { λ r. ⌜ r ≡ notKnown set block ⌝ }
+{
+    let holds = parameters_code::needs_key(set.fields.encryption, set.fields.decryption);
+    let has = holds & (block.key <= set.supplemental.count);
+    !(block.kind <= OTHER_KIND) | !((block.key == NO_KEY) | has)
+}
+
+// Checks 14 to 17, of a block read under a set, and what becomes of it.
+pub fn restore(set: Set, block: Block) -> Verdict
+    ensures { λ r. ⌜ r ≡ restored set block ⌝ }
+{
+    if not_known(set, block) {
+        return stop(Answer::BlockNotKnown);
+    }
+    under_mode(set.fields.decryption, block)
+}
+
+// The read decision's value in a reply.
+pub fn read_value_of(decision: ReadDecision) -> u8
+    ensures { λ r. ⌜ r ≡ readValueOf decision ⌝ }
+{
+    match decision {
+        ReadDecision::Withheld => 255,
+        ReadDecision::Plain => 0,
+        ReadDecision::Raw => 1,
+        ReadDecision::Decrypted => 2,
     }
 }
 

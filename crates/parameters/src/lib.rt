@@ -15,6 +15,8 @@ pub const EXTERNAL: u8 = 1;
 pub const ENCRYPT: u8 = 2;
 
 // Decryption modes.
+pub const RAW: u8 = 1;
+
 pub const DECRYPT: u8 = 2;
 
 pub const MIXED: u8 = 3;

@@ -74,6 +74,9 @@ pub use Rattle.drive_code.proofs.Settled.{check-command-settles as drive-code-c
 pub use Rattle.drive_code.proofs.Settled.{check-write-settles as drive-code-check-write-settles}
 pub use Rattle.drive_code.proofs.Settled.{decide-settles as drive-code-decide-settles}
 pub use Rattle.drive_code.proofs.Settled.{value-of-settles as drive-code-value-of-settles}
+pub use Rattle.drive_code.proofs.Settled.{block-of-settles as drive-code-block-of-settles}
+pub use Rattle.drive_code.proofs.Settled.{restore-settles as drive-code-restore-settles}
+pub use Rattle.drive_code.proofs.Settled.{read-value-of-settles as drive-code-read-value-of-settles}
 pub use Rattle.drive_code.proofs.Settled.{check-event-settles as drive-code-check-event-settles}
 pub use Rattle.drive_code.proofs.Settled.{actor-of-settles as drive-code-actor-of-settles}
 -- crate record_code

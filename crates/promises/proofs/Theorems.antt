@@ -30,7 +30,7 @@ pub use Rattle.drive.proofs.Same.{same-record}
 -- A reply's head has the bytes that stand before the data, and tells its number, its sense and how many bytes of data follow.
 pub use Rattle.command.proofs.Replies.{head-size, head-number, head-sense, head-length}
 -- A kind that has data is the kind of a known command, so data are never read for an unknown one.
-pub use Rattle.command.proofs.Requests.{out-order, read-order, take-order}
+pub use Rattle.command.proofs.Requests.{out-order, status-order, take-order}
 -- The stored session of the stream, further commands and records taken and given: what is replied is what is printed there.
 pub use Rattle.command.proofs.Worked.{session-proved, further-proved as stream-further-proved, records-proved}
 -- Every call of a well-formed record leaves a well-formed record; power-on gives one; so since power-on answer 1 is never due.

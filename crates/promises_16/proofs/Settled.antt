@@ -27,6 +27,8 @@ pub use Rattle.drive_16.proofs.Settled.{security-out-known-settles as drive-16-
 pub use Rattle.drive_16.proofs.Settled.{security-out-settles as drive-16-security-out-settles}
 pub use Rattle.drive_16.proofs.Settled.{write-known-settles as drive-16-write-known-settles}
 pub use Rattle.drive_16.proofs.Settled.{write-settles as drive-16-write-settles}
+pub use Rattle.drive_16.proofs.Settled.{read-known-settles as drive-16-read-known-settles}
+pub use Rattle.drive_16.proofs.Settled.{read-settles as drive-16-read-settles}
 pub use Rattle.drive_16.proofs.Settled.{unit-reset-known-settles as drive-16-unit-reset-known-settles}
 pub use Rattle.drive_16.proofs.Settled.{unit-reset-settles as drive-16-unit-reset-settles}
 pub use Rattle.drive_16.proofs.Settled.{happen-known-settles as drive-16-happen-known-settles}

@@ -17,18 +17,21 @@ use Rattle.device.specs.Selecting.{selected}
 use Rattle.device.proofs.Selecting.{selected-within}
 use Rattle.device_16.specs.Model.{device}
 use Rattle.drive.specs.declared.Command.{Command}
-use Rattle.drive.specs.Calls.{securityIn, write}
+use Rattle.drive.specs.declared.Block.{Block}
+use Rattle.drive.specs.Restoring.{readValueOf}
+use Rattle.drive.specs.Calls.{securityIn, write, read}
 use Rattle.drive.specs.Checks.{answer}
 use Rattle.drive.specs.After.{after}
 use Rattle.drive.specs.Outcomes.{responsePage, inLength, inBuffer, valueOf, decidedPlace}
-use Rattle.drive_16.specs.Outcomes.{inOutcomeBy, inOutcome, writeOutcomeBy, writeOutcome}
+use Rattle.drive_16.specs.Outcomes.{inOutcomeBy, inOutcome, writeOutcomeBy, writeOutcome, readOutcomeBy, readOutcome}
 use Rattle.drive_16.specs.declared.InOutcome.{InOutcome}
 use Rattle.drive_16.specs.declared.WriteOutcome.{WriteOutcome}
+use Rattle.drive_16.specs.declared.ReadOutcome.{ReadOutcome}
 use Rattle.command.specs.Requests.{lentMost}
-use Rattle.command.specs.Replies.{replyHeadSize, Replied, whenDone, inBytes, inReply, writeBytes, writeReply}
+use Rattle.command.specs.Replies.{replyHeadSize, Replied, answered, whenDone, inBytes, inReply, writeBytes, writeReply, readBytes, readReply}
 use Rattle.wire.proofs.Numbers.{two-lower}
 use Rattle.wire.proofs.Stores.{part-stored}
-use Rattle.stream_16.specs.Stream.{lentFrom, lentPart, replyOf, replyWith, Given}
+use Rattle.stream_16.specs.Stream.{lentFrom, lentPart, replyMost, replyOf, replyWith, Given}
 use Rattle.stream_16.specs.declared.Reply.{Reply}
 
 -- a reply without data leaves the buffer as it was
@@ -69,20 +72,42 @@ module _ (s : State) (command : Command) where
         fits = omega (arith, count);
       }
 
+-- a reply that has data where its answer is 0
+module _ (a : Answer) (bytes : List ℕ) (s : State) where
+  -- refused: none
+  pub stopped : (b : List ℕ) (r : Reply) → isDone a ≡ false → r ≡ replyWith (device s) a 0 → Given (answered a (whenDone a bytes) s) b r b
+  stopped b r f u =
+      let none : whenDone a bytes ≡ [] = if-false _ _ _ f in
+      kept (answered a (whenDone a bytes) s) b r none (u ∙ ap (λ (l : List ℕ). replyWith (device s) a (length l)) (sym none))
+
+  -- done: they are stored
+  pub stored : (b : List ℕ) (count : ℕ) {end : List ℕ} {r : Reply} → isDone a ≡ true → count ≡ length bytes → replyHeadSize + count ≤ replyMost
+      → end ≡ sets b replyHeadSize bytes → r ≡ replyWith (device s) a count → Given (answered a (whenDone a bytes) s) b r end
+  stored b count d size small t u =
+      let given : whenDone a bytes ≡ bytes = if-true _ _ _ d in
+      record {
+        tells = u ∙ ap (replyWith (device s) a) (size ∙ ap length (sym given));
+        holds = t ∙ ap (sets b replyHeadSize) (sym given);
+        fits = omega (arith, size, ap length given);
+      }
+
+-- the place of a set in use is a byte
+place-byte : (s : State) (n : ℕ) (a : Answer) → 0 < length (s .sets) → length (s .sets) ≤ 256 → isDone a ≡ true → decidedPlace s n a % 256 ≡ decidedPlace s n a
+place-byte s n a some few d =
+    let place : decidedPlace s n a ≡ selected s n = if-true _ _ _ d in
+    omega (arith, place, selected-within s n some)
+
 -- the write decision
 module _ (s : State) (n : ℕ) (supported : Bool) {o : WriteOutcome} (p : o ≡ writeOutcome s n supported) where
-  -- refused: no data
   pub write-stopped : (b : List ℕ) (r : Reply) → isDone (o .answer) ≡ false → r ≡ replyWith (o .device) (o .answer) 0
       → Given (writeReply s n supported) b r b
   unfolding writeReply writeOutcomeBy
   write-stopped b r f u =
       let a = answer s (write n supported) in
-      let stopped : isDone a ≡ false = sym (ap (λ (x : WriteOutcome). isDone (x .answer)) p) ∙ f in
-      let none : whenDone a (writeBytes s n a) ≡ [] = if-false _ _ _ stopped in
-      kept (writeReply s n supported) b r none
-      (u ∙ ap (λ (x : WriteOutcome). replyWith (x .device) (x .answer) 0) p ∙ ap (λ (l : List ℕ). replyWith (device (after s (write n supported))) a (length l)) (sym none))
+      stopped a (writeBytes s n a) (after s (write n supported)) b r (sym (ap (λ (x : WriteOutcome). isDone (x .answer)) p) ∙ f)
+      (u ∙ ap (λ (x : WriteOutcome). replyWith (x .device) (x .answer) 0) p)
 
-  -- decided: value, place and index are stored
+  -- value, place and index
   pub write-given : (b : List ℕ) {value : ℕ} {end : List ℕ} {r : Reply} → 0 < length (s .sets) → length (s .sets) ≤ 256 → isDone (o .answer) ≡ true
       → value ≡ valueOf (o .decision) → end ≡ sets b replyHeadSize (value ∷ o .place % 256 ∷ o .index ∷ [])
       → r ≡ replyWith (o .device) (o .answer) 3 → Given (writeReply s n supported) b r end
@@ -90,12 +115,30 @@ module _ (s : State) (n : ℕ) (supported : Bool) {o : WriteOutcome} (p : o ≡ 
   write-given b {value} {end} {r} some few d v t u =
       let a = answer s (write n supported) in
       let done : isDone a ≡ true = sym (ap (λ (x : WriteOutcome). isDone (x .answer)) p) ∙ d in
-      let given : whenDone a (writeBytes s n a) ≡ writeBytes s n a = if-true _ _ _ done in
-      let place : decidedPlace s n a ≡ selected s n = if-true _ _ _ done in
-      let low : decidedPlace s n a % 256 ≡ decidedPlace s n a = omega (arith, place, selected-within s n some) in
-      let stored : value ∷ o .place % 256 ∷ o .index ∷ [] ≡ writeBytes s n a = rw (v, p, low) refl in
-      record {
-        tells = u ∙ ap (λ (x : WriteOutcome). replyWith (x .device) (x .answer) 3) p ∙ ap (λ (l : List ℕ). replyWith (device (after s (write n supported))) a (length l)) (sym given);
-        holds = t ∙ ap (sets b replyHeadSize) (stored ∙ sym given);
-        fits = omega (arith, ap length given);
-      }
+      let low = place-byte s n a some few done in
+      let same : value ∷ o .place % 256 ∷ o .index ∷ [] ≡ writeBytes s n a = rw (v, p, low) refl in
+      stored a (writeBytes s n a) (after s (write n supported)) b 3 done refl (omega arith) (t ∙ ap (sets b replyHeadSize) same)
+      (u ∙ ap (λ (x : WriteOutcome). replyWith (x .device) (x .answer) 3) p)
+
+-- the read decision
+module _ (s : State) (n : ℕ) (block : Block) {o : ReadOutcome} (p : o ≡ readOutcome s n block) where
+  pub read-stopped : (b : List ℕ) (r : Reply) → isDone (o .answer) ≡ false → r ≡ replyWith (o .device) (o .answer) 0
+      → Given (readReply s n block) b r b
+  unfolding readReply readOutcomeBy
+  read-stopped b r f u =
+      let a = answer s (read n block) in
+      stopped a (readBytes s n block a) (after s (read n block)) b r (sym (ap (λ (x : ReadOutcome). isDone (x .answer)) p) ∙ f)
+      (u ∙ ap (λ (x : ReadOutcome). replyWith (x .device) (x .answer) 0) p)
+
+  -- value and place
+  pub read-given : (b : List ℕ) {value : ℕ} {end : List ℕ} {r : Reply} → 0 < length (s .sets) → length (s .sets) ≤ 256 → isDone (o .answer) ≡ true
+      → value ≡ readValueOf (o .decision) → end ≡ sets b replyHeadSize (value ∷ o .place % 256 ∷ [])
+      → r ≡ replyWith (o .device) (o .answer) 2 → Given (readReply s n block) b r end
+  unfolding readReply readOutcomeBy
+  read-given b {value} {end} {r} some few d v t u =
+      let a = answer s (read n block) in
+      let done : isDone a ≡ true = sym (ap (λ (x : ReadOutcome). isDone (x .answer)) p) ∙ d in
+      let low = place-byte s n a some few done in
+      let same : value ∷ o .place % 256 ∷ [] ≡ readBytes s n block a = rw (v, p, low) refl in
+      stored a (readBytes s n block a) (after s (read n block)) b 2 done refl (omega arith) (t ∙ ap (sets b replyHeadSize) same)
+      (u ∙ ap (λ (x : ReadOutcome). replyWith (x .device) (x .answer) 2) p)

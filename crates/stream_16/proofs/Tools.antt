@@ -21,10 +21,10 @@ use Rattle.record.specs.Reading.{recordRead}
 use Rattle.record.specs.Good.{goodBytes, recordTaken}
 use Rattle.record_16.specs.Loading.{loaded}
 use Rattle.record_16.specs.declared.Loaded.{Loaded}
-use Rattle.command.specs.Replies.{replyHeadSize, answered, whenDone, valuesHead, valuesBytes, statusReply, takeReply, giveReply}
+use Rattle.command.specs.Replies.{replyHeadSize, answered, valuesHead, valuesBytes, statusReply, takeReply, giveReply}
 use Rattle.stream_16.specs.Stream.{replyMost, replyOf, replyWith, Given}
 use Rattle.stream_16.specs.declared.Reply.{Reply}
-use Rattle.stream_16.proofs.Giving.{kept}
+use Rattle.stream_16.proofs.Giving.{stopped, stored}
 
 -- the status reader
 module _ (s : State) (page : List ℕ) {read : StatusRead} (p : read ≡ readStatus page) where
@@ -33,11 +33,8 @@ module _ (s : State) (page : List ℕ) {read : StatusRead} (p : read ≡ readSta
       → Given (statusReply s page) b r b
   unfolding statusReply
   status-stopped b r f u =
-      let a = readStatus page .answer in
-      let stopped : isDone a ≡ false = sym (ap (λ (x : StatusRead). isDone (x .answer)) p) ∙ f in
-      let none : whenDone a (valuesBytes (readStatus page .status)) ≡ [] = if-false _ _ _ stopped in
-      kept (statusReply s page) b r none
-      (u ∙ ap (λ (x : StatusRead). replyWith (device s) (x .answer) 0) p ∙ ap (λ (l : List ℕ). replyWith (device s) a (length l)) (sym none))
+      stopped (readStatus page .answer) (valuesBytes (readStatus page .status)) s b r (sym (ap (λ (x : StatusRead). isDone (x .answer)) p) ∙ f)
+      (u ∙ ap (λ (x : StatusRead). replyWith (device s) (x .answer) 0) p)
 
   -- read: the values are stored, then the key-associated data
   pub status-given : (b : List ℕ) (at count : ℕ) {head rest first end : List ℕ} {r : Reply} → isDone (read .answer) ≡ true
@@ -45,19 +42,13 @@ module _ (s : State) (page : List ℕ) {read : StatusRead} (p : read ≡ readSta
       → first ≡ sets b replyHeadSize head → end ≡ sets first at rest → r ≡ replyWith (device s) (read .answer) count → Given (statusReply s page) b r end
   unfolding statusReply
   status-given b at count {head} {rest} {first} {end} {r} d h k size total small t v u =
-      let a = readStatus page .answer in
       let values = valuesBytes (readStatus page .status) in
-      let done : isDone a ≡ true = sym (ap (λ (x : StatusRead). isDone (x .answer)) p) ∙ d in
-      let given : whenDone a values ≡ values = if-true _ _ _ done in
       let bytes : head ++ rest ≡ values = (λ i. h i ++ k i) ∙ ap (λ (x : StatusRead). valuesBytes (x .status)) p in
       let counted : count ≡ length values = sym total ∙ sym (length-append head rest) ∙ ap length bytes in
-      record {
-        tells = u ∙ ap (λ (x : StatusRead). replyWith (device s) (x .answer) count) p ∙ ap (replyWith (device s) a) (counted ∙ ap length (sym given));
-        holds =
-            v ∙ ap (λ (x : List ℕ). sets x at rest) t ∙ ap (λ (j : ℕ). sets (sets b replyHeadSize head) j rest) (sym size)
-            ∙ sets-append b replyHeadSize head rest ∙ ap (sets b replyHeadSize) (bytes ∙ sym given);
-        fits = omega (arith, counted, ap length given);
-      }
+      stored (readStatus page .answer) values s b count (sym (ap (λ (x : StatusRead). isDone (x .answer)) p) ∙ d) counted small
+      (v ∙ ap (λ (x : List ℕ). sets x at rest) t ∙ ap (λ (j : ℕ). sets (sets b replyHeadSize head) j rest) (sym size)
+      ∙ sets-append b replyHeadSize head rest ∙ ap (sets b replyHeadSize) bytes)
+      (u ∙ ap (λ (x : StatusRead). replyWith (device s) (x .answer) count) p)
 
 -- a record taken
 module _ (s : State) (bytes : List ℕ) {l : Loaded} (nexuses : length (s .nexuses) ≡ nexusCount) (places : length (s .sets) ≡ placeCount) (p : l ≡ loaded bytes) where

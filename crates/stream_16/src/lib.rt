@@ -6,6 +6,7 @@ use command::Order;
 use command::Request;
 use command::UNKNOWN;
 use device_16::Device;
+use drive::Block;
 use drive::Command;
 use drive_16::Outcome;
 use record_16::RECORD_SIZE;
@@ -15,7 +16,7 @@ ghost use Prim.Native.Nat.{_+_, _≤_};
 ghost use lib.ListN.{length};
 ghost use Rattle.device_16.specs.Model.{state};
 ghost use Rattle.command.specs.Requests.{lentMost, lentSize};
-ghost use Rattle.command.specs.Replies.{unknownReply, inReply, writeReply, statusReply, takeReply, giveReply, obeyed};
+ghost use Rattle.command.specs.Replies.{unknownReply, inReply, writeReply, readReply, statusReply, takeReply, giveReply, obeyed};
 ghost use Rattle.stream_16.specs.Stream.{lentFrom, lentPart, replyOf, replyWith, Given, served};
 
 pub const HEAD_SIZE: usize = 6;
@@ -105,6 +106,25 @@ fn give_write(d: Device, n: u8, supported: bool, buffer: &mut [u8]) -> Reply
     reply_with(after, answer, 3)
 }
 
+// The read decision.
+fn give_read(d: Device, n: u8, block: Block, buffer: &mut [u8]) -> Reply
+    ensures { λ r. ⌜ Given (readReply (state d) n block) (now (buffer .entry)) r (now (buffer .exit)) ⌝ }
+{
+    let outcome = drive_16::read(d, n, block);
+    let answer = outcome.answer;
+    let decision = outcome.decision;
+    let after = outcome.device;
+    if !answer_code::is_done(answer) {
+        return reply_with(after, answer, 0);
+    }
+    let bytes = [
+        drive_code::read_value_of(decision),
+        (outcome.place % 256) as u8,
+    ];
+    wire_code::put(buffer, HEAD_SIZE, &bytes);
+    reply_with(after, answer, 2)
+}
+
 // The status reader.
 fn give_status(d: Device, page: &[u8], buffer: &mut [u8]) -> Reply
     ensures { λ r. ⌜ Given (statusReply (state d) (now (page .entry))) (now (buffer .entry)) r (now (buffer .exit)) ⌝ }
@@ -155,6 +175,7 @@ fn follow(d: Device, order: Order, page: &[u8], buffer: &mut [u8]) -> Reply
         Order::In(command, size) => give_in(d, command, size as usize, buffer),
         Order::Out(command) => plain(drive_16::security_out(d, command, page)),
         Order::Write(n, supported) => give_write(d, n, supported, buffer),
+        Order::Read(n, block) => give_read(d, n, block, buffer),
         Order::UnitReset => plain(drive_16::unit_reset(d)),
         Order::Happen(event) => plain(drive_16::happen(d, event)),
         Order::ReadStatus => give_status(d, page, buffer),

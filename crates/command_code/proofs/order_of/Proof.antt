@@ -22,4 +22,6 @@ order-of-spec =
     (λ c κs. search needs)
     (λ c. simp (ne-eqb _ _ (c .before .before .before .before .before .before .before .if1 .left), ne-eqb _ _ (c .before .before .before .before .before .before .if2 .left), ne-eqb _ _ (c .before .before .before .before .before .if3 .left), ne-eqb _ _ (c .before .before .before .before .if4 .left), ne-eqb _ _ (c .before .before .before .if5 .left), sym (c .before .before .is-event .ensures) ∙ c .before .if6 .taken, c .event-of .ensures))
     (λ c κs. search needs)
-    (λ c. simp (ne-eqb _ _ (c .before .before .before .before .before .before .before .if1 .left), ne-eqb _ _ (c .before .before .before .before .before .before .if2 .left), ne-eqb _ _ (c .before .before .before .before .before .if3 .left), ne-eqb _ _ (c .before .before .before .before .if4 .left), ne-eqb _ _ (c .before .before .before .if5 .left), sym (c .before .before .is-event .ensures) ∙ c .before .if6 .left) (c .tool-order .ensures)))
+    (λ c. simp (ne-eqb _ _ (c .before .before .before .before .before .before .before .before .if1 .left), ne-eqb _ _ (c .before .before .before .before .before .before .before .if2 .left), ne-eqb _ _ (c .before .before .before .before .before .before .if3 .left), ne-eqb _ _ (c .before .before .before .before .before .if4 .left), ne-eqb _ _ (c .before .before .before .before .if5 .left), sym (c .before .before .before .is-event .ensures) ∙ c .before .before .if6 .left, eq-eqb _ _ (c .before .if7 .taken), c .block-of .ensures))
+    (λ c κs. search needs)
+    (λ c. simp (ne-eqb _ _ (c .before .before .before .before .before .before .before .before .if1 .left), ne-eqb _ _ (c .before .before .before .before .before .before .before .if2 .left), ne-eqb _ _ (c .before .before .before .before .before .before .if3 .left), ne-eqb _ _ (c .before .before .before .before .before .if4 .left), ne-eqb _ _ (c .before .before .before .before .if5 .left), sym (c .before .before .before .is-event .ensures) ∙ c .before .before .if6 .left, ne-eqb _ _ (c .before .if7 .left)) (c .tool-order .ensures)))

@@ -1,7 +1,7 @@
 use borrow.Author.Needs.{needs}
-use mathlib.Core.Path.{_≡_, refl, sym, ap, _∙_}
+use mathlib.Core.Path.{_≡_, refl, ap, _∙_}
 use mathlib.Core.Bool.{Bool}
-use mathlib.Core.List.{List, _++_}
+use mathlib.Core.List.{List}
 use Prim.Native.Nat.{ℕ}
 use lib.ListN.{length}
 use Rattle.arrays.proofs.Laws.{sized-field}
@@ -14,38 +14,37 @@ use Rattle.sizes_16.specs.Sizes.{nexusCount}
 use Rattle.device_16.specs.Model.{state}
 use Rattle.drive.specs.Calls.{write}
 use Rattle.drive.specs.Checks.{firstOf, heardOf, permitted, checks, knownAnswer}
-use Rattle.drive.proofs.Checks.{first-stops, first-passes, told-fault, told-done, fault-told, done-told}
+use Rattle.drive.proofs.Checks.{fault-told, done-told, heard-found, known-stops, known-passes}
 use Rattle.drive_16.specs.Outcomes.{writeOutcomeBy}
 use Rattle.drive_16.proofs.Outcomes.{write-refused, write-done}
 use Rattle.drive_16.proofs.write_known.Statement.{statement}
 use Rattle.drive_16.proofs.write_known.Tie as tie
 
--- what the code gives for checks 2 to 4, and the others
+-- what the call is answered
+abbrev given : tie.Start → Answer
+given s = knownAnswer (state (s .args .d)) (write (s .args .n) (s .args .supported))
+
+-- its checks: 2 to 4, then its own
 abbrev front : tie.Start → List Answer
 front s = heardOf (state (s .args .d)) (s .args .n)
 
 abbrev rest : tie.Start → List Answer
 rest s = permitted (nexusAt (state (s .args .d)) (s .args .n)) (selectedSet (state (s .args .d)) (s .args .n)) (s .args .supported)
 
-abbrev given : tie.Start → Answer
-given s = knownAnswer (state (s .args .d)) (write (s .args .n) (s .args .supported))
-
-whole : (s : tie.Start) → given s ≡ firstOf (front s ++ rest s)
-unfolding knownAnswer checks
-whole s = refl
-
 heard-is : (c : tie.After-hear) → c .hear .result ≡ firstOf (front (c .before .before .before))
 heard-is c =
-    let d = c .before .before .before .args .d in
+    let a = c .before .before .before .args in
+    let d = a .d in
     let l : length (d .nexuses) ≡ nexusCount = search (needs, sized-field) in
-    simp (l, ← c .before .before .nexus-at .ensures) (c .hear .ensures)
+    heard-found (state d) (a .n) nexusCount _ _ l (c .before .before .nexus-at .ensures) (c .hear .ensures)
 
--- where they find a fault, theirs is the answer
+-- where checks 2 to 4 find a fault, theirs is the answer
 heard-first : (c : tie.Then1) → c .before .before .hear .result ≡ given (c .before .before .before .before .before)
+unfolding checks
 heard-first c =
-    let h = heard-is (c .before .before) in
     let s = c .before .before .before .before .before in
-    h ∙ sym (whole s ∙ first-stops (front s) (rest s) (told-fault h (c .before .is-done .ensures) (c .if1 .taken)))
+    known-stops (state (s .args .d)) (write (s .args .n) (s .args .supported)) (front s) (rest s) refl _ (heard-is (c .before .before))
+    (fault-told (c .before .is-done .ensures) (c .if1 .taken))
 
 -- checks 11 and 12 of the nexus and the set that the code found
 checked : (s : State) (n place : ℕ) (supported : Bool) (nexus : Nexus) (a : Answer) → nexus ≡ nexusAt s n → place ≡ selected s n
@@ -59,12 +58,14 @@ selects c =
 
 -- where they find none, what checks 11 and 12 answered is
 answered : (c : tie.After-check-write) → c .check-write .result ≡ given (c .before .before .before .before .before .before .before .before .before)
+unfolding checks
 answered c =
     let h = c .before .before .before .before .before .before in
     let s = h .before .before .before in
     let a = s .args in
-    checked (state (a .d)) (a .n) _ (a .supported) _ _ (h .before .before .nexus-at .ensures) (selects (c .before .before)) (c .check-write .ensures)
-    ∙ sym (whole s ∙ first-passes (front s) (rest s) (told-done (heard-is h) (c .before .before .before .before .before .is-done .ensures) (c .before .before .before .before .if1 .left)))
+    known-passes (state (a .d)) (write (a .n) (a .supported)) (front s) (rest s) refl _ _ (heard-is h)
+    (done-told (c .before .before .before .before .before .is-done .ensures) (c .before .before .before .before .if1 .left))
+    (checked (state (a .d)) (a .n) _ (a .supported) _ _ (h .before .before .nexus-at .ensures) (selects (c .before .before)) (c .check-write .ensures))
 
 pub write-known-spec : {M : Type 1} → statement M
 write-known-spec =

@@ -9,7 +9,7 @@ use Rattle.device_16.specs.Model.{state}
 use Rattle.drive.specs.Calls.{securityOut, unitReset, happens}
 use Rattle.command.specs.Requests.{lentMost, lentSize}
 use Rattle.command.specs.Replies.{obeyed}
-use Rattle.command.specs.declared.Order.the-variants.{Unknown, PowerOn, In, Out, Write, UnitReset, Happen, ReadStatus, TakeRecord, GiveRecord}
+use Rattle.command.specs.declared.Order.the-variants.{Unknown, PowerOn, In, Out, Write, Read, UnitReset, Happen, ReadStatus, TakeRecord, GiveRecord}
 use Rattle.stream_16.specs.Stream.{lentFrom}
 use Rattle.stream_16.proofs.Giving.{kept}
 use Rattle.stream_16.proofs.Tools.{taken-none}
@@ -42,6 +42,8 @@ follow-spec =
     fits-known (c .before .before .order .given .1) fits)
     (λ c. search needs)
     (λ c κs. search needs)
+    (λ c κs. search needs)
+    (λ c. search needs)
     (λ c κs. search needs)
     (λ c. search needs)
     (λ c κs. search needs)
@@ -84,6 +86,12 @@ follow-spec =
     let a = matched .before .before .before .before .before .args in
     followed (state (a .d)) (now (a .page)) (now (a .buffer)) {known = Write _ _} (matched .before .order3 .given .1)
     (c .before .before .give-write .ensures))
+    (λ c. search needs)
+    (λ c.
+    let matched = c .before .before .before .before in
+    let a = matched .before .before .before .before .before .args in
+    followed (state (a .d)) (now (a .page)) (now (a .buffer)) {known = Read _ _} (matched .before .order4 .given .1)
+    (c .before .before .give-read .ensures))
     (λ c.
     let matched = c .before .before in
     let a = matched .before .before .before .before .args in
@@ -92,7 +100,7 @@ follow-spec =
     (λ c.
     let matched = c .before .before in
     let a = matched .before .before .before .before .before .args in
-    followed (state (a .d)) (now (a .page)) (now (a .buffer)) {known = Happen _} (matched .before .order4 .given .1)
+    followed (state (a .d)) (now (a .page)) (now (a .buffer)) {known = Happen _} (matched .before .order5 .given .1)
     (kept _ _ _ refl (call-told (state (a .d)) (happens _) (c .before .happen .ensures) (c .plain4 .ensures))))
     (λ c. search needs)
     (λ c.
