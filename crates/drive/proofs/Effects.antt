@@ -35,7 +35,8 @@ use Rattle.drive.specs.declared.Command.{Command}
 use Rattle.drive.specs.declared.Block.{Block}
 use Rattle.drive.specs.declared.Verdict.{Verdict}
 use Rattle.drive.specs.declared.ReadDecision.the-variants.{Plain, Raw, Decrypted}
-use Rattle.drive.specs.Restoring.{plainKind, encryptedKind, noKey, passes, stopped, underMode, notKnown, restored, ownNumber}
+use Rattle.drive.specs.Restoring.{plainKind, encryptedKind, noKey, passes, stopped, underMode, notKnown, restored}
+use Rattle.drive.specs.RestoringClaims.{readNumber}
 use Rattle.drive.specs.Calls.{Call, powerUp, securityIn, securityOut, write, read, unitReset, happens, senderOf}
 use Rattle.status.specs.Pages.{isOutPage}
 use Rattle.drive.specs.Checks.{answerIf, firstOf, pageChecked, check1, check10, instanceChanged, notUsable, heardOf, permitted, commandedOf, checks, recordCheck, answer, knownAnswer}
@@ -236,7 +237,7 @@ write-effect s n supported =
 
 -- a read's own answers are 0 and 14 to 17, which change nothing
 pub record ReadVerdict (v : Verdict) : Type 0 where
-  pub own : ownNumber (numberOf (v .answer)) ≡ true
+  pub number : readNumber (numberOf (v .answer)) ≡ true
   pub quiet : changeOf (v .answer) ≡ Unchanged
 
 -- either of two
@@ -246,13 +247,13 @@ either b p q = if-elim ReadVerdict b (λ t. p) (λ f. q)
 pub restored-own : (set : Set) (block : Block) → ReadVerdict (restored set block)
 unfolding underMode
 restored-own set block =
-    let plain : ReadVerdict (passes Plain) = record { own = refl; quiet = refl } in
-    let asRaw : ReadVerdict (passes Raw) = record { own = refl; quiet = refl } in
-    let decrypted : ReadVerdict (passes Decrypted) = record { own = refl; quiet = refl } in
-    let unknown : ReadVerdict (stopped BlockNotKnown) = record { own = refl; quiet = refl } in
-    let unable : ReadVerdict (stopped UnableToDecrypt) = record { own = refl; quiet = refl } in
-    let notEncrypted : ReadVerdict (stopped NotEncrypted) = record { own = refl; quiet = refl } in
-    let incorrect : ReadVerdict (stopped KeyIncorrect) = record { own = refl; quiet = refl } in
+    let plain : ReadVerdict (passes Plain) = record { number = refl; quiet = refl } in
+    let asRaw : ReadVerdict (passes Raw) = record { number = refl; quiet = refl } in
+    let decrypted : ReadVerdict (passes Decrypted) = record { number = refl; quiet = refl } in
+    let unknown : ReadVerdict (stopped BlockNotKnown) = record { number = refl; quiet = refl } in
+    let unable : ReadVerdict (stopped UnableToDecrypt) = record { number = refl; quiet = refl } in
+    let notEncrypted : ReadVerdict (stopped NotEncrypted) = record { number = refl; quiet = refl } in
+    let incorrect : ReadVerdict (stopped KeyIncorrect) = record { number = refl; quiet = refl } in
     let mode = set .fields .decryption in
     let isPlain = eqb (block .kind) plainKind in
     either (notKnown set block) unknown

@@ -3,5 +3,8 @@ pub mod Effects
 pub mod Events
 pub mod Keeps
 pub mod Refusals
+pub mod Restoring
+pub mod RestoringTable
 pub mod Same
+pub mod Seen
 pub mod Table

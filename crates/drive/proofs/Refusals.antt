@@ -45,7 +45,7 @@ refusals-change s call f =
     ∙ refused-does byNumber s (senderOf call) (changeOf (answer s call))
 
 -- what that leaves, part by part
-changes-marks : (sender : Actor) (change : Change) (s : State) → OnlyMarks sender change s (changesBy sender change s)
+pub changes-marks : (sender : Actor) (change : Change) (s : State) → OnlyMarks sender change s (changesBy sender change s)
 unfolding changes
 changes-marks Nobody change s = record {
   counter = refl;

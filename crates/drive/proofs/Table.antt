@@ -33,24 +33,24 @@ abbrev lent : ℕ → List ℕ
 lent n = replicate n 0xEE
 
 -- nexus 3 sends K
-abbrev p2 : List Call
+abbrev pub p2 : List Call
 p2 = sends 3 (pageK locked) ∷ []
 
-abbrev p5 : List Call
+abbrev pub p5 : List Call
 p5 = sends 0 (pageK unlocked) ∷ sends 1 (pageK unlocked) ∷ sends 2 (pageK unlocked) ∷ sends 3 (pageK unlocked) ∷ sends 4 (pageK unlocked) ∷ []
 
 abbrev p6 : List Call
 p6 = sends 0 (pageK locked) ∷ sends 1 (pageK locked) ∷ sends 2 (pageK locked) ∷ sends 3 (pageK locked) ∷ []
 
-abbrev p7 : List Call
+abbrev pub p7 : List Call
 p7 = p2 ++ happens Demount ∷ []
 
 -- nexus 6 sends ALL
-abbrev shared : Call
+abbrev pub shared : Call
 shared = sends 6 (pageK 0x40)
 
 -- nexus 5 locks PUBLIC before
-abbrev p8 : List Call
+abbrev pub p8 : List Call
 p8 = sends 5 (pageK 0x01) ∷ shared ∷ []
 
 -- a supplemental key: SDK 1; with its byte 4
@@ -61,7 +61,7 @@ supplemental b4 = page 0x30 b4 0x08 []
 abbrev another : Call
 another = sends 3 (supplemental unlocked)
 
-abbrev p9 : List Call
+abbrev pub p9 : List Call
 p9 = p2 ++ another ∷ []
 
 -- the status page after P2
@@ -107,7 +107,7 @@ abbrev foreign : ℕ → ℕ → Command
 foreign n code = record { nexus = n; protocol = 0x21; code = code }
 
 -- power-on's record but for one byte: the owner of an empty place, the scope of a nexus, and the number of an empty place, which may be any
-abbrev strangeOwner : State
+abbrev pub strangeOwner : State
 strangeOwner = atPlace 1 (λ set. established 1 0 0 noFields) (since [])
 
 abbrev strangeScope : State
@@ -125,7 +125,7 @@ abbrev known : ℕ → State → State
 known n = atNexus n (withMarks (record { registered = true; another = false; vendor = false }))
 
 -- nexus 5 sends PUBLIC; nexus 6 sends ALL with CKOD, and the volume is demounted: both flags are pending for nexus 5
-abbrev bothFlags : List Call
+abbrev pub bothFlags : List Call
 bothFlags = sends 5 (pageK 0x00) ∷ shared ∷ happens Demount ∷ []
 
 -- nexus 5 has four supplemental keys in an ALL set; a reset, after which it is not registered

@@ -1,4 +1,4 @@
--- What the tables of worked examples claim (proofs/Table), and when a claim holds. Pages and buffers are lists of bytes.
+-- What the tables of worked examples claim (proofs/Table, proofs/RestoringTable), and when a claim holds. Pages and buffers are lists of bytes.
 use Prim.Native.Nat.{ℕ, _+_}
 use mathlib.Core.Bool.{Bool, true, false, not, _&&_}
 use mathlib.Core.List.{List, [], _∷_, _++_}
@@ -13,18 +13,28 @@ use Rattle.device.specs.declared.Set.{Set}
 use Rattle.device.specs.declared.Marks.{Marks}
 use Rattle.device.specs.declared.Nexus.{Nexus}
 use Rattle.drive.specs.declared.Command.{Command}
-use Rattle.drive.specs.Calls.{Call, securityIn, securityOut, write}
+use Rattle.drive.specs.declared.Block.{Block}
+use Rattle.drive.specs.Calls.{Call, securityIn, securityOut, write, read}
 use Rattle.drive.specs.Checks.{answer}
 use Rattle.drive.specs.After.{after}
 use Rattle.drive.specs.Runs.{run}
-use Rattle.drive.specs.Outcomes.{inLength, inBuffer, valueOf, decision, decidedPlace, decidedIndex}
+use Rattle.drive.specs.Outcomes.{inLength, inBuffer, valueOf, decision, decidedPlace, decidedIndex, readDecision}
+use Rattle.drive.specs.Restoring.{readValueOf}
 
 -- ---- pages as bytes
 
--- a Set page with its page length, bytes 4 and 5, modes 2 and 2, index 1, a key of 32 bytes, and what follows it
+-- a Set page with its page length, bytes 4 and 5, both modes, index 1, a key of 32 bytes, and what follows it
+abbrev keyedPage : ℕ → ℕ → ℕ → ℕ → ℕ → List ℕ → List ℕ
+keyedPage length b4 b5 encryption decryption rest =
+    0x00 ∷ 0x10 ∷ 0x00 ∷ length ∷ b4 ∷ b5 ∷ encryption ∷ decryption ∷ 0x01 ∷ 0x00 ∷ 0x00 ∷ (replicate 7 0x00 ++ (0x00 ∷ 0x20 ∷ (replicate 32 0xA7 ++ rest)))
+
+-- one with modes 2 and 2
 abbrev pub page : ℕ → ℕ → ℕ → List ℕ → List ℕ
-page length b4 b5 rest =
-    0x00 ∷ 0x10 ∷ 0x00 ∷ length ∷ b4 ∷ b5 ∷ 0x02 ∷ 0x02 ∷ 0x01 ∷ 0x00 ∷ 0x00 ∷ (replicate 7 0x00 ++ (0x00 ∷ 0x20 ∷ (replicate 32 0xA7 ++ rest)))
+page length b4 b5 rest = keyedPage length b4 b5 0x02 0x02 rest
+
+-- one of 52 bytes, with its byte 4 and both modes
+abbrev pub modesPage : ℕ → ℕ → ℕ → List ℕ
+modesPage b4 encryption decryption = keyedPage 0x30 b4 0x40 encryption decryption []
 
 -- page K: "52 bytes, length 0030h, byte 4 21h, byte 5 44h, modes 2 and 2, index 1, key length 32, no descriptors"; with its byte 4
 abbrev pub pageK : ℕ → List ℕ
@@ -55,6 +65,10 @@ command n code = record { nexus = n; protocol = 0x20; code = code }
 -- nexus n sends a Set page
 abbrev pub sends : ℕ → List ℕ → Call
 sends n bytes = securityOut (command n 0x10) bytes
+
+-- what the cipher engine reports of a block
+abbrev pub block : ℕ → ℕ → Block
+block kind key = record { kind = kind; key = key }
 
 -- the record after calls since power-on, with 16 nexuses and 5 places
 abbrev pub since : List Call → State
@@ -134,6 +148,8 @@ pub data Claim : Type 0 where
   gives : State → Command → (buffer : List ℕ) → Told → (length : ℕ) → (bytes : List ℕ) → Claim
   -- a write by a nexus, the algorithm supported or not: its answer, the decision's value, place and index
   decides : State → (n : ℕ) → (supported : Bool) → Told → (value place index : ℕ) → Claim
+  -- a read of a block by a nexus: its answer, the decision's value and place
+  reads : State → (n : ℕ) → Block → Told → (value place : ℕ) → Claim
   -- a nexus uses the set of a place that has a number
   selects : State → (n place number : ℕ) → Claim
   -- a place holds a set with scope, owner and number
@@ -160,6 +176,9 @@ holds (gives s c buffer t length bytes) =
 holds (decides s n supported t value place index) =
     let a = answer s (write n supported) in
     tells a t && eqb (valueOf (decision s n a)) value && eqb (decidedPlace s n a) place && eqb (decidedIndex s n a) index
+holds (reads s n block t value place) =
+    let a = answer s (read n block) in
+    tells a t && eqb (readValueOf (readDecision s n block a)) value && eqb (decidedPlace s n a) place
 holds (selects s n place number) = eqb (selected s n) place && eqb (selectedSet s n .number) number
 holds (stands s place scope owner number) =
     eqb (setAt s place .scope) scope && eqb (setAt s place .owner) owner && eqb (setAt s place .number) number

@@ -7,3 +7,4 @@ pub mod Runs
 pub mod Outcomes
 pub mod Claims
 pub mod Refusals
+pub mod RestoringClaims

@@ -80,10 +80,6 @@ notKnown set block = not (leb (block .kind) otherKind) || not (eqb (block .key) 
 abbrev pub restored : Set → Block → Verdict
 restored set block = if notKnown set block then stopped BlockNotKnown else underMode (set .fields .decryption) block
 
--- the numbers that these give: "14", "15", "16", "17", or 0
-abbrev pub ownNumber : ℕ → Bool
-ownNumber number = eqb number 0 || (leb 14 number && leb number 17)
-
 -- the decision's value in replies; a refused read has none of the others'
 abbrev pub readValueOf : ReadDecision → ℕ
 readValueOf Plain = 0

@@ -24,9 +24,16 @@ use Rattle.device.specs.declared.Found.the-variants.{At, Nowhere}
 use Rattle.places.specs.Actions.{release, establish, releases, ownPlace, releaseFound, releaseOwn, emptyLocal, unlockedLocal, freeAt, evictingAt, room, establishIn, pageActions, releasedBy}
 use Rattle.places.specs.declared.Event.{Event}
 use Rattle.drive.specs.Effects.{Effect, nothing, marks, takes, clears, releasing, restarts}
-use Rattle.drive.specs.After.{actionsOf}
+use Rattle.drive.specs.After.{actionsOf, actions}
+use Rattle.drive.specs.Calls.{read}
+use Rattle.drive.specs.declared.Block.{Block}
+use Rattle.drive.proofs.Restoring.{read-leaves}
 use Rattle.history.specs.History.{hits, Establishes}
 use Rattle.history.proofs.Left.{supplemental-actions}
+
+-- a read is none
+pub read-no-action : (s : State) (n : ℕ) (block : Block) → actions s (read n block) ≡ []
+read-no-action s n block = read-leaves s n block .acts
 
 -- a supplemental key is no action
 pub supplemental-no-action : (s : State) (n : ℕ) (page : Page) → page .supplemental ≡ true → actionsOf s (takes n page) ≡ []

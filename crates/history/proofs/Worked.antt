@@ -19,7 +19,8 @@ use Rattle.marks.specs.Marks.{changes, flagged}
 use Rattle.marks.specs.Reset.{cleared}
 use Rattle.places.specs.Actions.{act, acts, releases, ownPlace, room, pageActions, senderAfter, supplemented, taken}
 use Rattle.places.specs.declared.Event.the-variants.{Demount}
-use Rattle.drive.specs.Calls.{Call, powerUp, securityOut, write, happens}
+use Rattle.drive.specs.Calls.{Call, powerUp, securityOut, write, read, happens}
+use Rattle.drive.specs.Restoring.{underMode}
 use Rattle.drive.specs.Checks.{checks, answer}
 use Rattle.drive.specs.Effects.{effectBy, effect}
 use Rattle.drive.specs.After.{actionsOf, changedBy, carriedOut}
@@ -35,6 +36,10 @@ sends n b4 b5 =
 -- it sends K, LOCAL and locked
 abbrev locks : ℕ → Call
 locks n = sends n 0x21 0x44
+
+-- it reads a block that its main key opened
+abbrev restores : ℕ → Call
+restores n = read n (record { kind = 1; key = 0 })
 
 abbrev sameFound : Found → Found → Bool
 sameFound (At i) (At j) = eqb i j
@@ -66,12 +71,13 @@ table =
     ∷ claim (sends 5 0x01 0x44 ∷ write 5 true ∷ sends 6 0x40 0x44 ∷ []) 5 0 (At 2)  -- P8: the ALL page of nexus 6
     ∷ claim (locks 3 ∷ sends 3 0x20 0x08 ∷ []) 3 1 Nowhere  -- P9: a supplemental key
     ∷ claim (locks 3 ∷ happens Demount ∷ happens Demount ∷ []) 3 1 (At 1)  -- the second releases an empty place
+    ∷ claim (locks 3 ∷ restores 3 ∷ happens Demount ∷ restores 3 ∷ restores 3 ∷ []) 3 1 (At 2)  -- a read touches no set
     ∷ claim (locks 3 ∷ powerUp ∷ locks 2 ∷ locks 3 ∷ happens Demount ∷ []) 3 2 (At 4)  -- power-on starts anew
     ∷ []
 
 -- all of them hold
 pub worked : T (every table)
-unfolding every table holds bare full reads readFrom trail hits followed trailOver answer checks effectBy actionsOf changedBy carriedOut changes flagged cleared act acts releases ownPlace room pageActions senderAfter supplemented taken setGood nexusGood ownerIsLocal wellFormed ownedPlace selected powerOn publicPage supplementalPage setPage checked openRules modeRules plainRules keyRules setRules matchRules endRules supplementalRules listOf descriptorRules listed
+unfolding every table holds bare full reads readFrom trail hits followed trailOver underMode answer checks effectBy actionsOf changedBy carriedOut changes flagged cleared act acts releases ownPlace room pageActions senderAfter supplemented taken setGood nexusGood ownerIsLocal wellFormed ownedPlace selected powerOn publicPage supplementalPage setPage checked openRules modeRules plainRules keyRules setRules matchRules endRules supplementalRules listOf descriptorRules listed
 worked = tt
 
 -- ---- demand 3 at work, both ways

@@ -1,0 +1,179 @@
+-- Document 02, request 1: what holds of every read.
+-- Assumes nothing.
+use Prim.Native.Nat.{ℕ, _+_, _*_, _/_, _%_, _<_}
+use mathlib.Core.Path.{_≡_, refl, sym, ap, subst, _∙_}
+use mathlib.Core.Bool.{Bool, true, false, not}
+use mathlib.Core.List.{List, [], _∷_, _++_}
+use native.Mathlib.Omega.{arith}
+use borrow.Author.Tests.{ltb-true, ltb-false}
+use lib.Dec.{eqb, leb, ltb}
+use lib.ListN.{length}
+use Rattle.arrays.specs.Base.{if_then_else_}
+use Rattle.arrays.proofs.Base.{cases, clash}
+use Rattle.answer.specs.Answers.{numberOf, changeOf, isDone}
+use Rattle.answer.specs.declared.Answer.{Answer}
+use Rattle.answer.specs.declared.Answer.the-variants.{NotWellFormed, NexusAbove, ChangedByAnotherNexus, ChangedByVendorEvent}
+use Rattle.answer.proofs.Numbers.{done-is}
+use Rattle.answer.specs.declared.Change.{Change}
+use Rattle.answer.specs.declared.Change.the-variants.{Unchanged, AnotherCleared, VendorCleared, Registered}
+use Rattle.parameters.specs.Fields.{keySize}
+use Rattle.page.specs.Rules.{keyLength}
+use Rattle.device.specs.Record.{State, nexusAt}
+use Rattle.device.specs.Selecting.{selectedSet}
+use Rattle.device.specs.WellFormed.{wellFormed}
+use Rattle.device.specs.Updates.{withLock, withSaved}
+use Rattle.device.specs.declared.Set.{Set}
+use Rattle.device.specs.declared.Nexus.{Nexus}
+use Rattle.device.specs.declared.Marks.{Marks}
+use Rattle.marks.specs.Marks.{changes, changed}
+use Rattle.marks.specs.declared.Actor.the-variants.{Acting}
+use Rattle.drive.specs.declared.Block.{Block}
+use Rattle.drive.specs.declared.ReadDecision.the-variants.{Withheld}
+use Rattle.drive.specs.Calls.{read}
+use Rattle.drive.specs.Checks.{answerIf, firstOf, check1, heardOf, checks, answer}
+use Rattle.drive.specs.Effects.{Effect, effect, refusal}
+use Rattle.drive.specs.After.{byNumber, carriedOut, actionsOf, actions, after}
+use Rattle.drive.specs.Outcomes.{readDecision, decidedPlace}
+use Rattle.drive.specs.Restoring.{blockOf, holdsKey, restored}
+use Rattle.drive.specs.Refusals.{OnlyMarks}
+use Rattle.drive.specs.RestoringClaims.{withoutLocks, ReadAlike, readNumber, onlyFlag, ReadLeaves}
+use Rattle.drive.proofs.Checks.{first-stops, first-passes, last-is}
+use Rattle.drive.proofs.Effects.{refusal-changes, restored-own, read-effect}
+use Rattle.drive.proofs.Refusals.{changes-marks}
+use Rattle.drive.proofs.Seen.{Seen, selected-seen, used-seen, good-seen, read-kept}
+
+-- ---- the lock
+
+-- what stays of a nexus
+unlocks : Seen (λ set. set) (λ nexus. withLock false (withSaved 0 nexus))
+unlocks = record { owner = λ x. refl; scope = λ x. refl; nexusScope = λ x. refl; marks = λ x. refl }
+
+-- without its locks a record answers a read as it did
+without-alike : (s : State) (n : ℕ) (block : Block) → ReadAlike (withoutLocks s) s n block
+without-alike s n block =
+    let formed = good-seen _ _ unlocks (λ c. c) s (λ nexuses place x. refl) in
+    let a = read-kept _ _ unlocks (λ c. c) s formed n block (λ x. refl) in
+    let v = used-seen _ _ unlocks (λ c. c) s (λ x. restored x block) (λ x. refl) n in
+    let p = selected-seen _ _ unlocks (λ c. c) s n in
+    record {
+      answered = a;
+      decided = λ i. if isDone (a i) then v i .decision else Withheld;
+      placed = λ i. if isDone (a i) then p i else 0;
+    }
+
+-- The lock doesn't stop reads: two records that differ only in locks and saved numbers answer a read alike.
+pub lock-free : (s t : State) → withoutLocks s ≡ withoutLocks t → (n : ℕ) (block : Block) → ReadAlike s t n block
+lock-free s t e n block =
+    let x = without-alike s n block in
+    let y = without-alike t n block in
+    record {
+      answered = sym (x .answered) ∙ ap (λ r. answer r (read n block)) e ∙ y .answered;
+      decided = sym (x .decided) ∙ ap (λ r. readDecision r n block (answer r (read n block))) e ∙ y .decided;
+      placed = sym (x .placed) ∙ ap (λ r. decidedPlace r n (answer r (read n block))) e ∙ y .placed;
+    }
+
+-- ---- the answer
+
+-- what is told by the first checks that find a fault, else by a read's own
+pub first-or-own : (P : Answer → Type 0) (s : State) (n : ℕ) (block : Block) → P (firstOf (check1 s ∷ heardOf s n)) → P (restored (selectedSet s n) block .answer)
+    → P (answer s (read n block))
+unfolding answer checks
+first-or-own P s n block first own =
+    let front = check1 s ∷ heardOf s n in
+    let a = restored (selectedSet s n) block .answer in
+    cases (isDone (firstOf front))
+    (λ t. subst P (sym (first-passes front (a ∷ []) t ∙ last-is a)) own)
+    (λ f. subst P (sym (first-stops front (a ∷ []) f)) first)
+
+-- checks 1 to 4 answer 0 to 4, and change a flag or nothing
+pub record First (a : Answer) : Type 0 where
+  pub number : readNumber (numberOf a) ≡ true
+  pub flag : onlyFlag (changeOf a) ≡ true
+
+first-is : (one two three four : Bool) → First (firstOf (answerIf one NotWellFormed ∷ answerIf two NexusAbove ∷ answerIf three ChangedByAnotherNexus ∷ answerIf four ChangedByVendorEvent ∷ []))
+first-is true two three four = record { number = refl; flag = refl }
+first-is false true three four = record { number = refl; flag = refl }
+first-is false false true four = record { number = refl; flag = refl }
+first-is false false false true = record { number = refl; flag = refl }
+first-is false false false false = record { number = refl; flag = refl }
+
+-- a read's answer: what is asked of its number, and of its change
+pub read-first : (s : State) (n : ℕ) (block : Block) → First (answer s (read n block))
+read-first s n block =
+    let marks = nexusAt s n .marks in
+    let own = restored-own (selectedSet s n) block in
+    first-or-own First s n block (first-is (not (wellFormed s)) (leb (length (s .nexuses)) n) (marks .another) (marks .vendor))
+    (record { number = own .number; flag = ap onlyFlag (own .quiet) })
+
+-- A read is answered 0 to 4 or 14 to 17.
+pub read-numbers : (s : State) (n : ℕ) (block : Block) → readNumber (numberOf (answer s (read n block))) ≡ true
+read-numbers s n block = read-first s n block .number
+
+-- 11 is never a read's answer.
+pub never-11 : (s : State) (n : ℕ) (block : Block) → numberOf (answer s (read n block)) ≡ 11 → ⊥
+never-11 s n block e = clash (sym (ap readNumber e) ∙ read-numbers s n block) refl
+
+-- ---- the record
+
+-- the change that a read's answer makes is that of checks 1 to 4: the others make none
+read-change : (s : State) (n : ℕ) (block : Block) → changeOf (firstOf (check1 s ∷ heardOf s n)) ≡ changeOf (answer s (read n block))
+unfolding answer checks
+read-change s n block =
+    let front = check1 s ∷ heardOf s n in
+    let a = restored (selectedSet s n) block .answer in
+    cases (isDone (firstOf front))
+    (λ t. ap changeOf (done-is (firstOf front) t) ∙ sym (ap changeOf (first-passes front (a ∷ []) t ∙ last-is a) ∙ restored-own (selectedSet s n) block .quiet))
+    (λ f. ap changeOf (sym (first-stops front (a ∷ []) f)))
+
+-- the record after a read, whatever its answer
+read-after : (s : State) (n : ℕ) (block : Block) → after s (read n block) ≡ changes s n (changeOf (answer s (read n block)))
+read-after s n block =
+    ap (carriedOut byNumber s) (read-effect s n block) ∙ refusal-changes byNumber s n _ ∙ ap (changes s n) (read-change s n block)
+
+-- a refusal acts on no place
+refusal-acts : (s : State) (n : ℕ) (change : Change) → actionsOf s (refusal (Acting n) change) ≡ []
+unfolding actionsOf
+refusal-acts s n Unchanged = refl
+refusal-acts s n AnotherCleared = refl
+refusal-acts s n VendorCleared = refl
+refusal-acts s n Registered = refl
+
+-- a change of a flag leaves who is registered
+flag-registered : (change : Change) (marks : Marks) → onlyFlag change ≡ true → changed change marks .registered ≡ marks .registered
+flag-registered Unchanged marks e = refl
+flag-registered AnotherCleared marks e = refl
+flag-registered VendorCleared marks e = refl
+flag-registered Registered marks e = clash e refl
+
+-- A read acts on no set, draws no number and changes nothing but a pending flag of its sender; it registers nobody.
+pub read-leaves : (s : State) (n : ℕ) (block : Block) → ReadLeaves s n block
+read-leaves s n block =
+    let change = changeOf (answer s (read n block)) in
+    let flag = read-first s n block .flag in
+    let only : OnlyMarks (Acting n) change s (after s (read n block)) = subst (OnlyMarks (Acting n) change s) (sym (read-after s n block)) (changes-marks (Acting n) change s) in
+    record {
+      acts = ap (actionsOf s) (read-effect s n block) ∙ refusal-acts s n (changeOf (firstOf (check1 s ∷ heardOf s n)));
+      draws = only .counter;
+      only = only;
+      flag = flag;
+      registered = λ m.
+          cases (eqb n m)
+          (λ t.
+          cases (ltb m (length (s .nexuses)))
+          (λ h. ap (λ (x : Marks). x .registered) (only .own m t (ltb-true _ _ h) .marks) ∙ flag-registered change (nexusAt s m .marks) flag)
+          (λ h. ap (λ (x : State). nexusAt x m .marks .registered) (only .above m t (ltb-false _ _ h))))
+          (λ f. ap (λ (x : Nexus). x .marks .registered) (only .others m f));
+    }
+
+-- ---- keys, and a block as one number
+
+-- A set holds a main key exactly where a page with its modes has one.
+pub holds-as-asked : (set : Set) → keyLength (set .fields .encryption) (set .fields .decryption) ≡ (if holdsKey set then keySize else 0)
+holds-as-asked set = refl
+
+-- Kind times 256 plus key is that kind and key.
+pub block-of-both : (kind key : ℕ) → key < 256 → blockOf (kind * 256 + key) ≡ record { kind = kind; key = key }
+block-of-both kind key h =
+    let k : (kind * 256 + key) / 256 ≡ kind = omega (arith, h) in
+    let r : (kind * 256 + key) % 256 ≡ key = omega (arith, h) in
+    λ i. record { kind = k i; key = r i }
