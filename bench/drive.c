@@ -50,10 +50,12 @@ struct page {
 
 enum answer {
     DONE, NOT_WELL_FORMED, NEXUS_ABOVE, BY_ANOTHER, BY_VENDOR, PROTOCOL, PAGE, PAGE_LENGTH, FIELD, FIFTH_KEY, NO_PLACE,
-    KEY_INSTANCE, NOT_USABLE, PLACE_ABOVE
+    KEY_INSTANCE, NOT_USABLE, PLACE_ABOVE, BLOCK, UNABLE, NOT_ENCRYPTED, KEY_INCORRECT
 };
 enum decision { REFUSED, CLEAR, EXTERNAL, ENCRYPTED };
 struct decided { enum answer answer; enum decision decision; usize place; u8 index; };
+enum given { WITHHELD, PLAIN, RAW, DECRYPTED };
+struct restored { enum answer answer; enum given given; usize place; };
 enum event { DEMOUNT, NEXUS_LOSS, DEVICE_LOSS, PREEMPT, MICROCODE, VENDOR_RELEASE };
 
 // ---- check 1
@@ -371,6 +373,31 @@ __attribute__((noinline)) struct decided decide_write(struct device *d, u8 n, bo
     return (struct decided){DONE, mode == 0 ? CLEAR : mode == 1 ? EXTERNAL : ENCRYPTED, place, s->fields.index};
 }
 
+static bool has_key(const struct set *s, u8 key) {
+    return (s->fields.encryption == 2 || s->fields.decryption >= 2) && key <= s->count;
+}
+
+static enum answer under_mode(u8 mode, u8 kind, u8 key, enum given *given) {
+    *given = kind == 0 ? PLAIN : mode == 1 ? RAW : DECRYPTED;
+    if (mode == 0) return kind == 0 ? DONE : UNABLE;
+    if (mode == 1) return DONE;
+    if (kind == 0) return mode == 2 ? NOT_ENCRYPTED : DONE;
+    if (kind == 2) return UNABLE;
+    return key == 255 ? KEY_INCORRECT : DONE;
+}
+
+__attribute__((noinline)) struct restored decide_read(struct device *d, u8 n, u8 kind, u8 key) {
+    enum answer a = hear(d, n);
+    if (a) return (struct restored){refuse(d, n, a), WITHHELD, 0};
+    usize place = selected(d, n);
+    const struct set *s = &d->sets[place];
+    enum given given;
+    if (kind > 2 || (key != 255 && !has_key(s, key))) return (struct restored){BLOCK, WITHHELD, 0};
+    a = under_mode(s->fields.decryption, kind, key, &given);
+    if (a) return (struct restored){a, WITHHELD, 0};
+    return (struct restored){DONE, given, place};
+}
+
 static bool is_released(const struct set *s, usize place, enum event event, u16 argument) {
     switch (event) {
     case DEMOUNT: return s->fields.ckod;
@@ -419,6 +446,7 @@ static void turn(struct device *d, u8 kind) {
     case 2: security_out(d, 3, 0x20, 0x10, page, sizeof page); break;
     case 3: happen(d, DEMOUNT, 0); break;
     case 4: happen(d, MICROCODE, 0); break;
+    case 5: decide_read(d, 3, 1, 0); break;
     }
 }
 

@@ -1,6 +1,7 @@
 // Makes one kind of call many times over, for counting its instructions (bench/run). Input: the kind, the turns divided by ten, and
 // the nexus that calls.
 use device_16::Device;
+use drive::Block;
 use drive::Command;
 use places::Event;
 
@@ -31,6 +32,18 @@ fn writes(start: Device, n: u8, turns: u32) -> Device {
     let mut i: u32 = 0;
     while i < turns {
         let w = drive_16::write(d, n, true);
+        let next = w.device;
+        d = next;
+        i += 1;
+    }
+    d
+}
+
+fn reads(start: Device, n: u8, turns: u32) -> Device {
+    let mut d = start;
+    let mut i: u32 = 0;
+    while i < turns {
+        let w = drive_16::read(d, n, Block { kind: 1, key: 0 });
         let next = w.device;
         d = next;
         i += 1;
@@ -91,6 +104,9 @@ fn run(d: Device, kind: u8, n: u8, turns: u32) -> Device {
     }
     if kind == 4 {
         return events(d, turns, Event::Microcode);
+    }
+    if kind == 5 {
+        return reads(d, n, turns);
     }
     d
 }
