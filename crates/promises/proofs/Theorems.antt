@@ -1,6 +1,6 @@
 -- What is proved beyond the promises of single functions. Each line passes on a theorem under the name by which docs/THEOREMS.md cites it.
 
--- The table of answers is document 01's, row by row: number, sense bytes, record change.
+-- The table of answers is document 01's with document 02's rows, row by row: number, sense bytes, record change.
 pub use Rattle.answer.proofs.Table.{table as answers-as-printed}
 -- Every call has an answer of that table with its row's sense, and a refused one writes no byte.
 pub use Rattle.drive.proofs.Refusals.{every-call-answers}
@@ -25,6 +25,15 @@ pub use Rattle.record.proofs.RoundTrip.{read-of-written as record-read-of-writt
 pub use Rattle.record.proofs.Formed.{good-is-formed}
 -- P1 to P10 hold of the definitions, pages as bytes, and further rows for the errors that look right.
 pub use Rattle.drive.proofs.Table.{table, proved, further, further-proved}
+-- The lock doesn't stop reads: two records that differ only in locks and saved numbers answer a read alike, and 11 is never its answer.
+pub use Rattle.drive.proofs.Restoring.{lock-free, read-numbers, never-11}
+-- A read acts on no set, draws no number, registers nobody and changes nothing but a pending flag of its sender.
+pub use Rattle.drive.proofs.Restoring.{read-leaves}
+pub use Rattle.history.proofs.NoAction.{read-no-action}
+-- A set holds a main key exactly where a page with its modes has one; kind times 256 plus key is that kind and key.
+pub use Rattle.drive.proofs.Restoring.{holds-as-asked, block-of-both}
+-- Document 02's table of reads under each decryption mode, and rows through the calls.
+pub use Rattle.drive.proofs.RestoringTable.{disable-decided, raw-decided, decrypt-decided, mixed-decided, restoring, restoring-proved}
 -- A row that finds two records the same finds them equal, field by field.
 pub use Rattle.drive.proofs.Same.{same-record}
 -- A reply's head has the bytes that stand before the data, and tells its number, its sense and how many bytes of data follow.
