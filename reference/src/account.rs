@@ -1,4 +1,4 @@
-//! The account a call gives of itself: which rules of 01 were at work, for the comparison's counts and
+//! The account a call gives of itself: which rules of 01 and 02 were at work, for the comparison's counts and
 //! its reports. It never decides an answer.
 
 use crate::set_page::Broken;
@@ -6,7 +6,7 @@ use crate::status_page::StatusRule;
 use crate::well_formed::Clause;
 use std::fmt;
 
-/// A rule of 01 that a call can come to, apart from the rules that pages and records can break.
+/// A rule of 01 or 02 that a call can come to, apart from the rules that pages and records can break.
 #[derive(Clone, Copy, PartialEq, Eq, PartialOrd, Ord, Debug)]
 pub enum Rule {
     NexusAbove15,
@@ -66,10 +66,25 @@ pub enum Rule {
     BufferShorterThanPage,
     BufferOfPageLength,
     BufferLongerThanPage,
+    ReadLockedAndUnchanged,
+    ReadNotStoppedByLock,
+    ReadBlockKindAbove2,
+    ReadKeyWithoutMainKey,
+    ReadKeyAboveCount,
+    ReadsPlainUnderDisable,
+    ReadsPlainUnderRaw,
+    ReadsPlainUnderMixed,
+    ReadsRaw,
+    ReadsDecryptedByMainKey,
+    ReadsDecryptedBySupplementalKey,
+    ReadEncryptedUnderDisable,
+    ReadEncryptedOtherwise,
+    ReadPlainUnderDecrypt,
+    ReadOpenedByNoKey,
 }
 
 impl Rule {
-    pub const EVERY: [Rule; 57] = [
+    pub const EVERY: [Rule; 72] = [
         Rule::NexusAbove15,
         Rule::PlaceAbove4,
         Rule::PendingAnotherNexus,
@@ -127,6 +142,21 @@ impl Rule {
         Rule::BufferShorterThanPage,
         Rule::BufferOfPageLength,
         Rule::BufferLongerThanPage,
+        Rule::ReadLockedAndUnchanged,
+        Rule::ReadNotStoppedByLock,
+        Rule::ReadBlockKindAbove2,
+        Rule::ReadKeyWithoutMainKey,
+        Rule::ReadKeyAboveCount,
+        Rule::ReadsPlainUnderDisable,
+        Rule::ReadsPlainUnderRaw,
+        Rule::ReadsPlainUnderMixed,
+        Rule::ReadsRaw,
+        Rule::ReadsDecryptedByMainKey,
+        Rule::ReadsDecryptedBySupplementalKey,
+        Rule::ReadEncryptedUnderDisable,
+        Rule::ReadEncryptedOtherwise,
+        Rule::ReadPlainUnderDecrypt,
+        Rule::ReadOpenedByNoKey,
     ];
 }
 
@@ -155,6 +185,26 @@ impl fmt::Display for Step {
     }
 }
 
+/// What a read that has passed checks 1 to 4 is decided over: a cell of the table of reads.
+#[derive(Clone, Copy, PartialEq, Eq, PartialOrd, Ord, Debug)]
+pub struct ReadCell {
+    pub encryption: u8,
+    pub decryption: u8,
+    pub supplemental_count: u8,
+    pub block_kind: u8,
+    pub key: u8,
+}
+
+impl fmt::Display for ReadCell {
+    fn fmt(&self, formatter: &mut fmt::Formatter) -> fmt::Result {
+        write!(
+            formatter,
+            "block kind {}, key {}, encryption {}, decryption {}, {} supplemental keys",
+            self.block_kind, self.key, self.encryption, self.decryption, self.supplemental_count
+        )
+    }
+}
+
 /// The account of one call.
 #[derive(Clone, Default, PartialEq, Eq, Debug)]
 pub struct Account {
@@ -162,6 +212,7 @@ pub struct Account {
     pub page_rules: Vec<Broken>,
     pub status_rules: Vec<StatusRule>,
     pub steps: Vec<Step>,
+    pub read_cell: Option<ReadCell>,
 }
 
 impl Account {

@@ -1,4 +1,5 @@
-//! 01, "Answer numbers": the refusals and their sense bytes. Answer 0, "done", is an `Ok`.
+//! 01, "Answer numbers", and 14 to 17 of 02, request 1: the refusals and their sense bytes. Answer 0, "done", is
+//! an `Ok`.
 
 /// Sense key, ASC and ASCQ; zeros where 01 says "none".
 pub type Sense = [u8; 3];
@@ -6,7 +7,7 @@ pub type Sense = [u8; 3];
 /// The sense of an answer that has none.
 pub const NO_SENSE: Sense = [0, 0, 0];
 
-/// Answers 1 to 13, in the order in which their checks run.
+/// Answers 1 to 17, in the order in which their checks run.
 #[derive(Clone, Copy, PartialEq, Eq, PartialOrd, Ord, Debug)]
 pub enum Refused {
     RecordNotWellFormed,
@@ -22,10 +23,14 @@ pub enum Refused {
     KeyInstanceChanged,
     ParametersNotUsable,
     PlaceAbove4,
+    BlockKindOrKeyNotKnown,
+    BlockNotDecryptable,
+    PlainWhileDecrypting,
+    OpenedByNoKey,
 }
 
 impl Refused {
-    pub const EVERY: [Refused; 13] = [
+    pub const EVERY: [Refused; 17] = [
         Refused::RecordNotWellFormed,
         Refused::NexusAbove15,
         Refused::ChangedByAnotherNexus,
@@ -39,9 +44,13 @@ impl Refused {
         Refused::KeyInstanceChanged,
         Refused::ParametersNotUsable,
         Refused::PlaceAbove4,
+        Refused::BlockKindOrKeyNotKnown,
+        Refused::BlockNotDecryptable,
+        Refused::PlainWhileDecrypting,
+        Refused::OpenedByNoKey,
     ];
 
-    /// The column "No." of 01's table.
+    /// The column "No." of 01's table; 14 to 17 by 02, request 1.
     pub fn number(self) -> u8 {
         match self {
             Refused::RecordNotWellFormed => 1,
@@ -57,13 +66,19 @@ impl Refused {
             Refused::KeyInstanceChanged => 11,
             Refused::ParametersNotUsable => 12,
             Refused::PlaceAbove4 => 13,
+            Refused::BlockKindOrKeyNotKnown => 14,
+            Refused::BlockNotDecryptable => 15,
+            Refused::PlainWhileDecrypting => 16,
+            Refused::OpenedByNoKey => 17,
         }
     }
 
-    /// The column "Sense key/ASC/ASCQ" of 01's table.
+    /// The column "Sense key/ASC/ASCQ" of 01's table; 02, request 1: "14 (no sense), 15 (7/74/01), 16 (7/74/02)
+    /// and 17 (7/74/03)".
     pub fn sense(self) -> Sense {
         match self {
             Refused::RecordNotWellFormed | Refused::NexusAbove15 | Refused::PlaceAbove4 => NO_SENSE,
+            Refused::BlockKindOrKeyNotKnown => NO_SENSE,
             Refused::ChangedByAnotherNexus => [0x6, 0x2A, 0x11],
             Refused::ChangedByVendorEvent => [0x6, 0x2A, 0x12],
             Refused::ProtocolNot20 | Refused::PageNotSupported => [0x5, 0x24, 0x00],
@@ -73,11 +88,14 @@ impl Refused {
             Refused::NoPlaceForLocalSet => [0x5, 0x55, 0x03],
             Refused::KeyInstanceChanged => [0x7, 0x2A, 0x13],
             Refused::ParametersNotUsable => [0x7, 0x74, 0x07],
+            Refused::BlockNotDecryptable => [0x7, 0x74, 0x01],
+            Refused::PlainWhileDecrypting => [0x7, 0x74, 0x02],
+            Refused::OpenedByNoKey => [0x7, 0x74, 0x03],
         }
     }
 }
 
-/// The column "When" of 01's table, for reports.
+/// The column "When" of 01's table, and the like for 14 to 17, for reports.
 pub fn when(number: u8) -> &'static str {
     match number {
         0 => "done",
@@ -94,7 +112,11 @@ pub fn when(number: u8) -> &'static str {
         11 => "key instance changed",
         12 => "parameters not usable",
         13 => "place argument above 4",
+        14 => "block kind or key not known",
+        15 => "block can't be decrypted",
+        16 => "plain block while decrypting",
+        17 => "no key opened the block",
         255 => "unknown kind of command",
-        _ => "not an answer of 01",
+        _ => "not an answer of 01 or 02",
     }
 }

@@ -22,6 +22,19 @@ pub mod decryption {
     pub const MIXED: u8 = 3;
 }
 
+/// 02, request 1: "block kind 0 plain, 1 encrypted under algorithm 1, 2 encrypted otherwise".
+pub mod block_kind {
+    pub const PLAIN: u8 = 0;
+    pub const ENCRYPTED_UNDER_ALGORITHM_1: u8 = 1;
+    pub const ENCRYPTED_OTHERWISE: u8 = 2;
+}
+
+/// 02, request 1: "the key that the cipher engine says opened it, 0 main, 1 to 4 supplemental, 255 none".
+pub mod opening_key {
+    pub const MAIN: u8 = 0;
+    pub const NONE: u8 = 255;
+}
+
 /// 01: "algorithm 1".
 pub const ALGORITHM: u8 = 1;
 /// The largest value of the two bits of CEEM (01: "CEEM bits 7–6").

@@ -46,7 +46,7 @@ impl Controller {
     }
 
     /// Checks 3 and 4: "pending", and "that flag cleared". They "apply to security commands and writes, and
-    /// the command isn't carried out".
+    /// the command isn't carried out"; 02, request 1, for a read: "Checks 1 to 4 as for a write".
     pub(crate) fn check_pending(&mut self, nexus: usize) -> Result<(), Refused> {
         let pending = &mut self.record.nexuses[nexus];
         if pending.changed_by_another_nexus {

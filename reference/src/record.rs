@@ -1,6 +1,6 @@
 //! The device record of 01, "What the controller holds".
 
-use crate::codes::scope;
+use crate::codes::{decryption, encryption, scope};
 use crate::sizes::{A_KAD_BYTES, KEY_BYTES, NEXUSES, PLACES, SUPPLEMENTAL_KEYS, U_KAD_BYTES};
 
 /// Key-associated data of 01: a length and as many bytes as the kind can have.
@@ -75,6 +75,13 @@ impl Set {
     /// 01: "A place is used when its set's scope isn't 0."
     pub fn is_used(&self) -> bool {
         self.scope != 0
+    }
+
+    /// 02, request 1: "A set holds a main key exactly where its modes ask a page for one (encryption 2, or
+    /// decryption 2 or 3)".
+    pub fn holds_main_key(&self) -> bool {
+        self.encryption == encryption::ENCRYPT
+            || matches!(self.decryption, decryption::DECRYPT | decryption::MIXED)
     }
 }
 

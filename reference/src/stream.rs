@@ -2,7 +2,7 @@
 
 use crate::account::Account;
 use crate::answer::{Refused, Sense, NO_SENSE};
-use crate::calls::{Written, WrittenAs};
+use crate::calls::{ReadAs, ReadBlock, Written, WrittenAs};
 use crate::controller::Controller;
 use crate::record_bytes;
 use crate::status_page::{self, Status};
@@ -21,6 +21,7 @@ pub mod kind {
     pub const PREEMPT: u8 = 8;
     pub const MICROCODE: u8 = 9;
     pub const VENDOR_RELEASE: u8 = 10;
+    pub const READ: u8 = 11;
     pub const READ_STATUS: u8 = 253;
     pub const LOAD_RECORD: u8 = 254;
     pub const GIVE_RECORD: u8 = 255;
@@ -186,6 +187,11 @@ impl Drive {
             kind::PREEMPT => plain(controller.preempt(command.nexus)),
             kind::MICROCODE => plain(controller.microcode()),
             kind::VENDOR_RELEASE => plain(controller.vendor_release(command.argument)),
+            kind::READ => {
+                // "the argument (bytes 2-3) is block kind times 256 plus key".
+                let [block_kind, key] = command.argument.to_be_bytes();
+                controller.read(command.nexus, block_kind, key).map_or_else(Reply::refused, read_block)
+            }
             kind::READ_STATUS => self.read_status(&command.data),
             kind::LOAD_RECORD => self.load_record(&command.data),
             kind::GIVE_RECORD => Reply::done(record_bytes::give(&controller.record)),
@@ -244,6 +250,16 @@ fn written(written: Written) -> Reply {
         WrittenAs::Encrypted => 2,
     };
     Reply::done(vec![as_what, written.place as u8, written.index])
+}
+
+/// "Reply when done (answer 0): M = 2: 0 plain, 1 raw, 2 decrypted; then the place."
+fn read_block(block: ReadBlock) -> Reply {
+    let as_what = match block.as_what {
+        ReadAs::Plain => 0,
+        ReadAs::Raw => 1,
+        ReadAs::Decrypted => 2,
+    };
+    Reply::done(vec![as_what, block.place as u8])
 }
 
 /// "253 done: nexus scope, set scope, encryption, decryption, index, number (4), CEEMS, RDMD, U-KAD length,

@@ -5,7 +5,8 @@
 #![forbid(unsafe_code)]
 
 use reference::codes::scope;
-use reference::record::Record;
+use reference::comparison::session;
+use reference::record::{Nexus, Record, Set};
 use reference::record_bytes;
 use reference::stream::{kind, Command, Drive, Reply};
 use std::io::{self, Write};
@@ -42,6 +43,15 @@ const FAULTS: [Fault; 18] = [
     ("rdmc-under-external", rdmc_under_external, 3),
     ("ends-at-microcode", ends_at_microcode, 3),
     ("hangs-at-preempt", hangs_at_preempt, 3),
+];
+
+/// The wrong drives that 02's request 1 names; the directed sessions are to find them.
+const READ_FAULTS: [Fault; 5] = [
+    ("lock-stops-reads", lock_stops_reads, 3),
+    ("15-before-14", fifteen_before_fourteen, 3),
+    ("raw-for-plain", raw_for_plain, 3),
+    ("key-above-count-taken", key_above_count_taken, 3),
+    ("mixed-refuses-plain", mixed_refuses_plain, 3),
 ];
 
 /// A released place takes its own number plus one.
@@ -212,6 +222,77 @@ fn hangs_at_preempt(moment: &mut Moment) {
     }
 }
 
+/// A read as the command, the record before it and the reply tell of it.
+struct Read {
+    block_kind: u8,
+    key: u8,
+    reader: Nexus,
+    set: Set,
+}
+
+/// The read at hand, if it is one that has passed checks 1 to 4.
+fn read_at_hand(moment: &Moment) -> Option<Read> {
+    if moment.command.kind != kind::READ || !matches!(moment.reply.number, 0 | 14..=17) {
+        return None;
+    }
+    let nexus = usize::from(moment.command.nexus);
+    let [block_kind, key] = moment.command.argument.to_be_bytes();
+    let (reader, set) = (moment.before.nexuses[nexus], moment.before.selected_set(nexus).clone());
+    Some(Read { block_kind, key, reader, set })
+}
+
+/// The reply becomes a refusal.
+fn refuse(moment: &mut Moment, number: u8, sense: [u8; 3]) {
+    *moment.reply = Reply { number, sense, data: Vec::new() };
+}
+
+/// A lock stops reads as it stops writes.
+fn lock_stops_reads(moment: &mut Moment) {
+    if read_at_hand(moment)
+        .is_some_and(|read| read.reader.lock && read.reader.saved_at_lock != read.set.number)
+    {
+        refuse(moment, 11, [7, 0x2A, 0x13]);
+    }
+}
+
+/// A block that can't be decrypted is answered 15 whatever its key.
+fn fifteen_before_fourteen(moment: &mut Moment) {
+    let undecryptable = |read: Read| match read.set.decryption {
+        0 => read.block_kind != 0,
+        1 => false,
+        _ => read.block_kind == 2,
+    };
+    if moment.reply.number == 14 && read_at_hand(moment).is_some_and(undecryptable) {
+        refuse(moment, 15, [7, 0x74, 0x01]);
+    }
+}
+
+/// RAW gives raw for kind 0 too.
+fn raw_for_plain(moment: &mut Moment) {
+    let raw = read_at_hand(moment).is_some_and(|read| read.set.decryption == 1 && read.block_kind == 0);
+    if raw && moment.reply.number == 0 {
+        moment.reply.data[0] = 1;
+    }
+}
+
+/// Supplemental keys 1 to 4 are taken even above the set's count; the read is decided as with the main key.
+fn key_above_count_taken(moment: &mut Moment) {
+    let Some(read) = read_at_hand(moment).filter(|read| (1..=4).contains(&read.key)) else { return };
+    if moment.reply.number == 14 && read.block_kind <= 2 && read.set.holds_main_key() {
+        let mut drive = Drive::new();
+        drive.answer(&session::load(moment.before));
+        *moment.reply = drive.answer(&session::read(moment.command.nexus, read.block_kind, 0));
+    }
+}
+
+/// MIXED refuses plain blocks as DECRYPT does.
+fn mixed_refuses_plain(moment: &mut Moment) {
+    let mixed = read_at_hand(moment).is_some_and(|read| read.set.decryption == 3 && read.block_kind == 0);
+    if mixed && moment.reply.number == 0 {
+        refuse(moment, 16, [7, 0x74, 0x02]);
+    }
+}
+
 /// A drive with a fault, on a pipe.
 fn faulty_drive(fault: fn(&mut Moment)) -> io::Result<()> {
     let mut drive = Drive::new();
@@ -221,7 +302,7 @@ fn faulty_drive(fault: fn(&mut Moment)) -> io::Result<()> {
         let mut reply = drive.answer(&command);
         let mut after = drive.controller().record.clone();
         fault(&mut Moment { command: &command, before: &before, reply: &mut reply, after: &mut after });
-        drive.answer(&reference::comparison::session::load_bytes(record_bytes::give(&after)));
+        drive.answer(&session::load_bytes(record_bytes::give(&after)));
         let mut bytes = Vec::new();
         reply.give(&mut bytes);
         output.write_all(&bytes)?;
@@ -256,12 +337,14 @@ fn failures() -> Vec<String> {
     }
     let this = std::env::current_exe().expect("this program has a path");
     let this = this.to_string_lossy();
-    for (name, _, longest) in FAULTS {
-        let (equal, report) =
-            compare(&["--seed", "1", "--calls", "20000", "--patience", "1", &this, "--fault", name]);
+    let faults = FAULTS.iter().map(|fault| (fault, &["--calls", "20000"][..]));
+    let read_faults = READ_FAULTS.iter().map(|fault| (fault, &["--directed"][..]));
+    for ((name, _, longest), sessions) in faults.chain(read_faults) {
+        let faulty = ["--seed", "1", "--patience", "1", &this, "--fault", name];
+        let (equal, report) = compare(&[sessions, &faulty].concat());
         match commands_in(&report) {
             _ if equal => failures.push(format!("fault {name} isn't found:\n{report}")),
-            Some(commands) if commands <= longest => println!("fault {name}: found, {commands} commands"),
+            Some(commands) if commands <= *longest => println!("fault {name}: found, {commands} commands"),
             Some(commands) => failures.push(format!("fault {name} leaves {commands} commands:\n{report}")),
             None => failures.push(format!("fault {name} has no short session:\n{report}")),
         }
@@ -272,7 +355,7 @@ fn failures() -> Vec<String> {
 fn main() -> ExitCode {
     let arguments: Vec<String> = std::env::args().collect();
     if let Some(at) = arguments.iter().position(|argument| argument == "--fault") {
-        let fault = FAULTS.iter().find(|(name, _, _)| *name == arguments[at + 1]);
+        let fault = FAULTS.iter().chain(&READ_FAULTS).find(|(name, _, _)| *name == arguments[at + 1]);
         let (_, fault, _) = fault.expect("the fault has a name");
         return if faulty_drive(*fault).is_ok() { ExitCode::SUCCESS } else { ExitCode::FAILURE };
     }

@@ -1,25 +1,24 @@
 -- A record whose sets and nexuses are made anew, but for parts that no rule reads: every call has the effect that it had.
 -- Assumes nothing.
 use Prim.Native.Nat.{ℕ, _+_}
-use mathlib.Core.Bool.{Bool, true, not, _&&_, _||_}
+use mathlib.Core.Bool.{Bool, not, _&&_}
 use mathlib.Core.List.{List, [], _∷_, _++_, map}
 use mathlib.Core.Path.{_≡_, refl, sym, _∙_, ap, ap₂}
-use lib.Dec.{eqb, leb}
-use lib.ListN.{length, length-map}
-use Rattle.arrays.specs.Base.{if_then_else_, bit}
-use Rattle.arrays.specs.Arrays.{find, each, count}
-use Rattle.arrays.proofs.Laws.{read-same, read-map, foldFrom-map}
+use lib.Dec.{eqb}
+use Rattle.arrays.specs.Base.{if_then_else_}
+use Rattle.arrays.specs.Arrays.{find, count}
+use Rattle.arrays.proofs.Laws.{foldFrom-map}
 use Rattle.answer.specs.Answers.{isDone, changeOf}
 use Rattle.answer.specs.declared.Answer.the-variants.{NotWellFormed, NoPlaceForLocal}
 use Rattle.answer.specs.declared.Change.the-variants.{Registered}
 use Rattle.page.specs.Check.{checked}
 use Rattle.page.specs.declared.Page.{Page}
 use Rattle.page.specs.declared.Checked.{Checked}
-use Rattle.parameters.specs.Codes.{localScope, allScope}
-use Rattle.device.specs.Record.{State, setAt, nexusAt, noSet, newNexus, empty, used}
+use Rattle.parameters.specs.Codes.{localScope}
+use Rattle.device.specs.Record.{State, nexusAt}
 use Rattle.device.specs.Updates.{mapped}
-use Rattle.device.specs.Selecting.{owns, ownedPlace, orElse, selected, selectedSet}
-use Rattle.device.specs.WellFormed.{setGood, nexusGood, ownerIsLocal, hasAll, wellFormed}
+use Rattle.device.specs.Selecting.{selected}
+use Rattle.device.specs.WellFormed.{setGood, wellFormed}
 use Rattle.device.specs.declared.Set.{Set}
 use Rattle.device.specs.declared.Nexus.{Nexus}
 use Rattle.device.specs.declared.Found.the-variants.{At, Nowhere}
@@ -28,11 +27,9 @@ use Rattle.places.specs.declared.Event.{Event}
 use Rattle.places.specs.declared.Event.the-variants.{Demount, NexusLoss, DeviceLoss, Preempt, Microcode, VendorRelease}
 use Rattle.marks.specs.declared.Actor.the-variants.{Acting}
 use Rattle.drive.specs.declared.Command.{Command}
-use Rattle.drive.specs.declared.Block.{Block}
-use Rattle.drive.specs.Restoring.{restored}
 use Rattle.drive.specs.Calls.{Call, powerUp, securityIn, securityOut, write, read, unitReset, happens}
 use Rattle.status.specs.Pages.{isInPage, isOutPage}
-use Rattle.drive.specs.Checks.{answerIf, firstOf, check1, check5, check6, eventCheck, heard, heardOf, pageChecked, checks, answer}
+use Rattle.drive.specs.Checks.{answerIf, firstOf, check1, check5, check6, eventCheck, heardOf, pageChecked, checks, answer}
 use Rattle.drive.specs.Effects.{Effect, nothing, marks, takes, clears, releasing, restarts, refusal, effectBy, effect}
 use Rattle.drive.specs.After.{actionsOf}
 use Rattle.drive.proofs.Seen.{Seen, owns-kept, find-kept, nexus-seen, owned-seen, selected-seen, used-seen, nexuses-kept, places-kept, good-seen, heard-kept}

@@ -3,7 +3,7 @@
 use Prim.Native.Nat.{ℕ, _+_, _*_, _/_, _%_, _<_}
 use mathlib.Core.Path.{_≡_, refl, sym, ap, subst, _∙_}
 use mathlib.Core.Bool.{Bool, true, false, not}
-use mathlib.Core.List.{List, [], _∷_, _++_}
+use mathlib.Core.List.{[], _∷_}
 use native.Mathlib.Omega.{arith}
 use borrow.Author.Tests.{ltb-true, ltb-false}
 use lib.Dec.{eqb, leb, ltb}
@@ -31,8 +31,8 @@ use Rattle.drive.specs.declared.Block.{Block}
 use Rattle.drive.specs.declared.ReadDecision.the-variants.{Withheld}
 use Rattle.drive.specs.Calls.{read}
 use Rattle.drive.specs.Checks.{answerIf, firstOf, check1, heardOf, checks, answer}
-use Rattle.drive.specs.Effects.{Effect, effect, refusal}
-use Rattle.drive.specs.After.{byNumber, carriedOut, actionsOf, actions, after}
+use Rattle.drive.specs.Effects.{refusal}
+use Rattle.drive.specs.After.{byNumber, carriedOut, actionsOf, after}
 use Rattle.drive.specs.Outcomes.{readDecision, decidedPlace}
 use Rattle.drive.specs.Restoring.{blockOf, holdsKey, restored}
 use Rattle.drive.specs.Refusals.{OnlyMarks}

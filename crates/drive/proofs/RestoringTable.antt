@@ -1,16 +1,15 @@
 -- Document 02, request 1: its table of modes, kinds and keys by computing, and rows through the calls.
 use Prim.Native.Nat.{ℕ}
-use mathlib.Core.Bool.{true, false}
+use mathlib.Core.Bool.{true}
 use mathlib.Core.List.{List, [], _∷_, _++_}
 use lib.Dec.{T}
-use lib.ListN.{replicate}
 use Rattle.kad.specs.Reading.{descriptorRules, listed}
 use Rattle.kad.specs.Writing.{descriptors}
 use Rattle.parameters.specs.Codes.{disable, raw, decrypt, mixed}
 use Rattle.page.specs.Fields.{listOf}
 use Rattle.page.specs.Rules.{openRules, modeRules, plainRules, keyRules, setRules, matchRules, endRules, supplementalRules}
 use Rattle.page.specs.Check.{publicPage, supplementalPage, setPage, checked}
-use Rattle.device.specs.Record.{State, powerOn}
+use Rattle.device.specs.Record.{powerOn}
 use Rattle.device.specs.Selecting.{ownedPlace, selected}
 use Rattle.device.specs.WellFormed.{setGood, nexusGood, ownerIsLocal, wellFormed}
 use Rattle.drive.specs.Checks.{checks, answer}

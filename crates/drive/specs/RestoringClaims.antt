@@ -2,8 +2,8 @@
 use Prim.Native.Nat.{ℕ}
 use mathlib.Core.Path.{_≡_}
 use mathlib.Core.Bool.{Bool, true, false, _&&_, _||_}
-use mathlib.Core.List.{List, [], _∷_, _++_, map}
-use lib.Dec.{leb, eqb}
+use mathlib.Core.List.{List, [], _∷_, map}
+use lib.Dec.{leb}
 use Rattle.arrays.specs.Base.{if_then_else_}
 use Rattle.kad.specs.Kad.{noKads}
 use Rattle.answer.specs.Answers.{numberOf, changeOf, isDone}
@@ -14,11 +14,9 @@ use Rattle.parameters.specs.Fields.{noFields, noSupplemental}
 use Rattle.parameters.specs.declared.Fields.{Fields}
 use Rattle.device.specs.Record.{State, nexusAt, established}
 use Rattle.device.specs.Updates.{withLock, withSaved, withScope, withSupplemental, atPlace, atNexus, mapped}
-use Rattle.device.specs.declared.Set.{Set}
 use Rattle.marks.specs.declared.Actor.the-variants.{Acting}
-use Rattle.places.specs.Actions.{Action}
 use Rattle.drive.specs.declared.Block.{Block}
-use Rattle.drive.specs.Calls.{Call, read}
+use Rattle.drive.specs.Calls.{read}
 use Rattle.drive.specs.Checks.{answer}
 use Rattle.drive.specs.After.{actions, after}
 use Rattle.drive.specs.Outcomes.{readDecision, decidedPlace}

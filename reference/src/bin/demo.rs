@@ -1,4 +1,5 @@
-//! Plays P1 to P10 of document 01, "Proved examples", on a drive program and tells in words what happens.
+//! Plays P1 to P10 of document 01, "Proved examples", and a restoring host of document 02 on a drive program and
+//! tells in words what happens.
 //!
 //! `demo PROGRAM [ARGUMENT ...]`
 
@@ -6,6 +7,8 @@
 
 #[path = "support/pipe.rs"]
 mod pipe;
+#[path = "support/restoring_host.rs"]
+mod restoring_host;
 
 use pipe::Pipe;
 use reference::answer::{when, Refused, Sense, NO_SENSE};
@@ -36,34 +39,39 @@ fn main() -> ExitCode {
         Some(_) => Pipe::start(&program).map_err(|fault| fault + "\n"),
     };
     let mut play = match pipe {
-        Ok(pipe) => Play { pipe, step: "", differing: Vec::new() },
+        Ok(pipe) => Play { pipe, document: "01", step: "", differing: Vec::new() },
         Err(fault) => {
             eprintln!("{fault}{USAGE}");
             return ExitCode::from(2);
         }
     };
-    println!("The examples of document 01, played on {}.", program.join(" "));
+    println!(
+        "The examples of document 01 and a restoring host of document 02, played on {}.",
+        program.join(" ")
+    );
     println!(
         "A nexus is one host's connection to the tape drive (0 to 15). It sends Set Data Encryption pages;"
     );
     println!(
         "the drive keeps their parameters in places: 0 for all nexuses (ALL), 1 to 4 for one nexus (LOCAL)."
     );
+    println!("A read tells the drive which kind of block it met and which of the nexus's keys opened it.");
     if let Err(trouble) = play.all() {
         println!("{}: can't be played: {trouble}", play.step);
         return ExitCode::FAILURE;
     }
     if !play.differing.is_empty() {
-        println!("\n{}: not as document 01 says", play.differing.join(", "));
+        println!("\n{}: not as documents 01 and 02 say", play.differing.join(", "));
         return ExitCode::FAILURE;
     }
-    println!("\nP1 to P10: as document 01 says");
+    println!("\nP1 to P10 and the restoring host: as documents 01 and 02 say");
     ExitCode::SUCCESS
 }
 
-/// The play: the drive, the step at hand, and the steps that went another way than document 01 says.
+/// The play: the drive, the document and the step at hand, and the steps that went another way than it says.
 struct Play {
     pipe: Pipe,
+    document: &'static str,
     step: &'static str,
     differing: Vec<&'static str>,
 }
@@ -79,7 +87,8 @@ impl Play {
         self.p7()?;
         self.p8()?;
         self.p9()?;
-        self.p10()
+        self.p10()?;
+        self.restoring_host()
     }
 
     fn p1(&mut self) -> Played {
@@ -186,10 +195,10 @@ impl Play {
         self.page(3, "page K with a U-KAD of 0 bytes", &with(0), 8)
     }
 
-    /// A step's heading, what document 01 expects, and power-on.
+    /// A step's heading, what the document expects, and power-on.
     fn start(&mut self, step: &'static str, what: &str, expected: &str) -> Played {
         self.step = step;
-        println!("\n{step}: {what}\n  Document 01 expects: {expected}.");
+        println!("\n{step}: {what}\n  Document {} expects: {expected}.", self.document);
         let reply = self.pipe.ask(&power_on())?;
         println!("  Power-on: {}", answer_words(&reply));
         self.check(is_plain(&reply, 0), "answer 0");
@@ -199,7 +208,7 @@ impl Play {
     /// Says so if the drive went another way.
     fn check(&mut self, same: bool, expected: &str) {
         if !same {
-            println!("    DIFFERS: document 01 says {expected}");
+            println!("    DIFFERS: document {} says {expected}", self.document);
             if !self.differing.contains(&self.step) {
                 self.differing.push(self.step);
             }
@@ -293,12 +302,12 @@ impl Play {
     }
 }
 
-/// Whether a reply is this number with document 01's sense and nothing else.
+/// Whether a reply is this number with the documents' sense and nothing else.
 fn is_plain(reply: &Reply, number: u8) -> bool {
     reply.number == number && reply.sense == sense_of(number) && reply.data.is_empty()
 }
 
-/// Document 01's sense for an answer number.
+/// The documents' sense for an answer number.
 fn sense_of(number: u8) -> Sense {
     let refused = Refused::EVERY.into_iter().find(|refused| refused.number() == number);
     refused.map_or(NO_SENSE, Refused::sense)
@@ -332,7 +341,7 @@ fn sense_key_name(key: u8) -> &'static str {
         5 => "ILLEGAL REQUEST",
         6 => "UNIT ATTENTION",
         7 => "DATA PROTECT",
-        _ => "a sense key document 01 doesn't use",
+        _ => "a sense key documents 01 and 02 don't use",
     }
 }
 
@@ -347,8 +356,11 @@ fn sense_name(asc: u8, ascq: u8) -> &'static str {
         (0x2A, 0x13) => "DATA ENCRYPTION KEY INSTANCE COUNTER HAS CHANGED",
         (0x55, 0x03) => "INSUFFICIENT RESOURCES",
         (0x55, 0x08) => "MAXIMUM NUMBER OF SUPPLEMENTAL DECRYPTION KEYS EXCEEDED",
+        (0x74, 0x01) => "UNABLE TO DECRYPT DATA",
+        (0x74, 0x02) => "UNENCRYPTED DATA ENCOUNTERED WHILE DECRYPTING",
+        (0x74, 0x03) => "INCORRECT DATA ENCRYPTION KEY",
         (0x74, 0x07) => "ENCRYPTION PARAMETERS NOT USEABLE",
-        _ => "a code document 01 doesn't use",
+        _ => "a code documents 01 and 02 don't use",
     }
 }
 

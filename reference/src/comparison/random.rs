@@ -4,10 +4,10 @@ use super::numbers::Numbers;
 use super::page_builder::{random_damage, random_list, set_length, status_header, Edit, SetPage};
 use super::record_builder::random_record;
 use super::session::{
-    event, event_of, load, load_bytes, power_on, read_status, security_in, security_out, vendor_release,
-    write, Session,
+    event, event_of, load, load_bytes, power_on, read, read_status, security_in, security_out,
+    vendor_release, write, Session,
 };
-use crate::codes::{encryption, scope};
+use crate::codes::{encryption, opening_key, scope};
 use crate::record_bytes::{self, COUNTER_BYTES, NEXUS_BYTES, PLACE_BYTES};
 use crate::sizes::{KEY_BYTES, NEXUSES, PLACES};
 use crate::stream::{kind, Command, Drive};
@@ -55,7 +55,7 @@ impl RandomSessions {
     /// Any command.
     fn command(&mut self) -> Command {
         let nexus = self.nexus();
-        let mut command = match self.numbers.below(100) {
+        let mut command = match self.numbers.below(112) {
             0..=41 => self.set_page(nexus),
             42..=53 => self.response_page(nexus),
             54..=69 => write(nexus, self.numbers.percent(70)),
@@ -70,7 +70,8 @@ impl RandomSessions {
             95 => power_on(),
             96 => load_bytes(self.damaged_record()),
             97 | 98 => load(&random_record(&mut self.numbers)),
-            _ => self.unknown_kind(),
+            99 => self.unknown_kind(),
+            _ => self.read(nexus),
         };
         if self.numbers.percent(10) {
             self.fill_unread_fields(&mut command);
@@ -78,22 +79,44 @@ impl RandomSessions {
         command
     }
 
-    /// A kind of 11 to 252, with a length though no data follows.
+    /// A kind of 12 to 252, with a length though no data follows.
     fn unknown_kind(&mut self) -> Command {
-        let kind = if self.numbers.percent(50) { 11 } else { 11 + self.numbers.below(242) as u8 };
+        let kind = if self.numbers.percent(50) { 12 } else { 12 + self.numbers.below(241) as u8 };
         Command { length: self.numbers.pick(&[0, 0, 1, 52, 1317]), ..event(kind) }
+    }
+
+    /// A read, mostly of a kind there is and with no key or one around those the reader's set has.
+    fn read(&mut self, nexus: u8) -> Command {
+        let reader = usize::from(nexus) % NEXUSES;
+        let count = self.shadow.controller().record.selected_set(reader).supplemental_count;
+        let numbers = &mut self.numbers;
+        let block_kind = match numbers.below(20) {
+            0..=16 => numbers.pick(&[0, 1, 1, 2]),
+            17 | 18 => numbers.pick(&[3, 4, 128, 254, 255]),
+            _ => numbers.byte(),
+        };
+        let key = match numbers.below(10) {
+            0..=2 => opening_key::NONE,
+            3 | 4 => opening_key::MAIN,
+            5..=7 => numbers.below(usize::from(count) + 1) as u8,
+            8 => numbers.pick(&[count.wrapping_add(1), 4, 5, 128, 254]),
+            _ => numbers.byte(),
+        };
+        read(nexus, block_kind, key)
     }
 
     /// Puts something into the fields the command doesn't have (the port stays 0).
     fn fill_unread_fields(&mut self, command: &mut Command) {
         let has_nexus = matches!(
             command.kind,
-            kind::IN | kind::OUT | kind::WRITE | kind::NEXUS_RESERVATION_LOSS | kind::PREEMPT
+            kind::IN | kind::OUT | kind::WRITE | kind::READ | kind::NEXUS_RESERVATION_LOSS | kind::PREEMPT
         );
         if !has_nexus {
             command.nexus = self.numbers.byte();
         }
-        if !matches!(command.kind, kind::IN | kind::OUT | kind::WRITE | kind::VENDOR_RELEASE) {
+        let has_argument =
+            matches!(command.kind, kind::IN | kind::OUT | kind::WRITE | kind::READ | kind::VENDOR_RELEASE);
+        if !has_argument {
             command.argument = self.numbers.next() as u16;
         }
         if !matches!(command.kind, kind::IN | kind::OUT) {

@@ -1,8 +1,10 @@
 //! What the sessions came to, counted: a run that never came to something on the list fails.
 
 use super::report::kind_name;
-use crate::account::{Account, Rule};
+use crate::account::{Account, ReadCell, Rule};
+use crate::codes::{decryption, encryption};
 use crate::set_page::PageRule;
+use crate::sizes::{PLACES, SUPPLEMENTAL_KEYS};
 use crate::status_page::StatusRule;
 use crate::stream::{kind, Command, Reply};
 use crate::well_formed::Clause;
@@ -14,6 +16,9 @@ const PAGE_LENGTHS: usize = 120;
 const LENT_SIZES: usize = 80;
 /// The bytes of the Set page of which all values are to be tried.
 const VALUED_BYTES: std::ops::RangeInclusive<usize> = 4..=10;
+/// The block kinds and the keys of the table of reads.
+const TABLE_KINDS: [u8; 5] = [0, 1, 2, 3, 255];
+const TABLE_KEYS: [u8; 8] = [0, 1, 2, 3, 4, 5, 254, 255];
 
 /// Something to come to.
 #[derive(Clone, Copy, PartialEq, Eq, PartialOrd, Ord, Debug)]
@@ -22,6 +27,7 @@ pub enum Item {
     KindAnswer(u8, u8),
     ResponsePage(u16),
     Event { kind: u8, releases: bool },
+    ReadDone { as_what: u8, place: u8 },
     ClauseBroken(Clause),
     ClauseBrokenAlone(Clause),
     PageRuleBroken(PageRule),
@@ -33,6 +39,9 @@ pub enum Item {
     StatusPageLength(usize),
     LentSize(usize),
     SetPageByte(usize, u8),
+    ReadCell(ReadCell),
+    ReadKind(u8),
+    ReadKey(u8),
 }
 
 impl Item {
@@ -43,6 +52,7 @@ impl Item {
             Item::KindAnswer(..) => "kinds of call with their answers",
             Item::ResponsePage(_) => "response pages given",
             Item::Event { .. } => "events with and without a release",
+            Item::ReadDone { .. } => "reads done, by place",
             Item::ClauseBroken(_) => "clauses of well-formedness broken",
             Item::ClauseBrokenAlone(_) => "clauses of well-formedness broken alone",
             Item::PageRuleBroken(_) => "rules of the page broken",
@@ -54,6 +64,9 @@ impl Item {
             Item::StatusPageLength(_) => "lengths of the status page",
             Item::LentSize(_) => "sizes of the lent buffer",
             Item::SetPageByte(..) => "values of bytes 4 to 10 of the Set page",
+            Item::ReadCell(_) => "cells of the table of reads",
+            Item::ReadKind(_) => "block kinds of reads",
+            Item::ReadKey(_) => "keys of reads",
         }
     }
 
@@ -63,7 +76,7 @@ impl Item {
         matches!(
             self,
             Item::SetPageLength(_) | Item::StatusPageLength(_) | Item::LentSize(_) | Item::SetPageByte(..)
-        )
+        ) || matches!(self, Item::ReadCell(_) | Item::ReadKind(_) | Item::ReadKey(_))
     }
 }
 
@@ -76,6 +89,10 @@ impl fmt::Display for Item {
             Item::Event { kind, releases } => {
                 write!(formatter, "{} {}", kind_name(*kind), if *releases { "with" } else { "without" })
             }
+            Item::ReadDone { as_what, place } => {
+                let as_what = ["plain", "raw", "decrypted"][usize::from(*as_what)];
+                write!(formatter, "{as_what} from place {place}")
+            }
             Item::ClauseBroken(clause) | Item::ClauseBrokenAlone(clause) => write!(formatter, "{clause:?}"),
             Item::PageRuleBroken(rule) | Item::PageRuleBrokenAlone(rule) => write!(formatter, "{rule:?}"),
             Item::StatusRuleBroken(rule) | Item::StatusRuleBrokenAlone(rule) => write!(formatter, "{rule:?}"),
@@ -84,12 +101,14 @@ impl fmt::Display for Item {
                 write!(formatter, "{number}")
             }
             Item::SetPageByte(byte, value) => write!(formatter, "byte {byte} {value:02X}h"),
+            Item::ReadCell(cell) => write!(formatter, "{cell}"),
+            Item::ReadKind(number) | Item::ReadKey(number) => write!(formatter, "{number}"),
         }
     }
 }
 
-/// The answers each kind of call can give, by 01 and design.md. 11 stands for the unknown kinds.
-const KIND_ANSWERS: [(u8, &[u8]); 14] = [
+/// The answers each kind of call can give, by 01, 02 and design.md. 12 stands for the unknown kinds.
+const KIND_ANSWERS: [(u8, &[u8]); 15] = [
     (kind::POWER_ON, &[0]),
     (kind::IN, &[0, 1, 2, 3, 4, 5, 6]),
     (kind::OUT, &[0, 1, 2, 3, 4, 5, 6, 7, 8, 9, 10]),
@@ -101,11 +120,34 @@ const KIND_ANSWERS: [(u8, &[u8]); 14] = [
     (kind::PREEMPT, &[0, 1, 2]),
     (kind::MICROCODE, &[0, 1]),
     (kind::VENDOR_RELEASE, &[0, 1, 13]),
+    (kind::READ, &[0, 1, 2, 3, 4, 14, 15, 16, 17]),
     (kind::READ_STATUS, &[0, 7, 8]),
     (kind::LOAD_RECORD, &[0, 1]),
     (UNKNOWN, &[255]),
 ];
-const UNKNOWN: u8 = 11;
+const UNKNOWN: u8 = 12;
+
+/// Every cell of the table of reads: the modes, which tell whether the set holds a main key, the count of
+/// supplemental keys, the block kind and the key.
+fn table_of_reads() -> Vec<ReadCell> {
+    let mut cells = Vec::new();
+    for encryption in encryption::DISABLE..=encryption::ENCRYPT {
+        for decryption in decryption::DISABLE..=decryption::MIXED {
+            for supplemental_count in 0..=SUPPLEMENTAL_KEYS as u8 {
+                for block_kind in TABLE_KINDS {
+                    cells.extend(TABLE_KEYS.map(|key| ReadCell {
+                        encryption,
+                        decryption,
+                        supplemental_count,
+                        block_kind,
+                        key,
+                    }));
+                }
+            }
+        }
+    }
+    cells
+}
 
 /// The counts.
 #[derive(Default)]
@@ -132,6 +174,7 @@ impl Reached {
                 }
             }
             kind::OUT => self.count_set_page(&command.data, reply.number),
+            kind::READ => self.count_read(reply, account),
             kind::READ_STATUS => self.add(Item::StatusPageLength(command.data.len())),
             kind::DEMOUNT..=kind::VENDOR_RELEASE if reply.number == 0 => {
                 self.add(Item::Event { kind, releases: account.tells(Rule::Releases) });
@@ -154,6 +197,19 @@ impl Reached {
             let counts = self.page_bytes.entry(byte).or_insert_with(|| vec![0; 256]);
             counts[usize::from(page[byte])] += 1;
         }
+    }
+
+    /// Counts a read's decision, and its cell and arguments if they were looked at.
+    fn count_read(&mut self, reply: &Reply, account: &Account) {
+        if let [as_what, place] = reply.data[..] {
+            self.add(Item::ReadDone { as_what, place });
+        }
+        let Some(cell) = account.read_cell else { return };
+        if TABLE_KINDS.contains(&cell.block_kind) && TABLE_KEYS.contains(&cell.key) {
+            self.add(Item::ReadCell(cell));
+        }
+        self.add(Item::ReadKind(cell.block_kind));
+        self.add(Item::ReadKey(cell.key));
     }
 
     /// Counts the rules of an account.
@@ -202,7 +258,7 @@ impl Reached {
 
     /// Everything a run has to come to.
     fn wanted() -> Vec<Item> {
-        let mut wanted: Vec<Item> = (0..=13).map(Item::Answer).collect();
+        let mut wanted: Vec<Item> = (0..=17).map(Item::Answer).collect();
         wanted.push(Item::Answer(255));
         for (kind, answers) in KIND_ANSWERS {
             wanted.extend(answers.iter().map(|&number| Item::KindAnswer(kind, number)));
@@ -210,6 +266,9 @@ impl Reached {
         wanted.extend([0x0000, 0x0001, 0x0012, 0x0020].map(Item::ResponsePage));
         for kind in kind::DEMOUNT..=kind::VENDOR_RELEASE {
             wanted.extend([true, false].map(|releases| Item::Event { kind, releases }));
+        }
+        for as_what in 0..3 {
+            wanted.extend((0..PLACES as u8).map(|place| Item::ReadDone { as_what, place }));
         }
         wanted.extend(Clause::EVERY.map(Item::ClauseBroken));
         let alone = Clause::EVERY.into_iter().filter(|clause| clause.breaks_alone());
@@ -227,6 +286,9 @@ impl Reached {
         for byte in VALUED_BYTES {
             wanted.extend((0..=255).map(|value| Item::SetPageByte(byte, value)));
         }
+        wanted.extend(table_of_reads().into_iter().map(Item::ReadCell));
+        wanted.extend((0..=255).map(Item::ReadKind));
+        wanted.extend((0..=255).map(Item::ReadKey));
         wanted.sort();
         wanted
     }

@@ -22,6 +22,7 @@ pub fn kind_name(kind: u8) -> &'static str {
         kind::PREEMPT => "preempt",
         kind::MICROCODE => "microcode",
         kind::VENDOR_RELEASE => "vendor release",
+        kind::READ => "read",
         kind::READ_STATUS => "status reader (253)",
         kind::LOAD_RECORD => "load record (254)",
         kind::GIVE_RECORD => "give record (255)",
@@ -63,6 +64,16 @@ fn command_text(command: &Command) -> String {
             command.data.len()
         ),
         kind::WRITE => write!(text, ", nexus {}, support flag {}", command.nexus, command.argument),
+        kind::READ => {
+            let [block_kind, key] = command.argument.to_be_bytes();
+            let (nexus, protocol, port, length) =
+                (command.nexus, command.protocol, command.port, command.length);
+            write!(
+                text,
+                ", nexus {nexus}, block kind {block_kind}, key {key} (ignored: protocol {protocol:02X}h, port \
+                 {port}, length {length})"
+            )
+        }
         kind::READ_STATUS => write!(text, ", {} bytes", command.data.len()),
         kind::LOAD_RECORD => return load_text(command),
         _ => {
@@ -148,6 +159,9 @@ pub fn account_text(account: &Account) -> String {
     }
     for rule in &account.status_rules {
         let _ = writeln!(text, "    the status page breaks {rule:?}");
+    }
+    if let Some(cell) = &account.read_cell {
+        let _ = writeln!(text, "    the read is decided over {cell}");
     }
     for step in &account.steps {
         let _ = writeln!(text, "    {step}");

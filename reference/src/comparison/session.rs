@@ -50,6 +50,11 @@ pub fn write(nexus: u8, supported: bool) -> Command {
     Command { nexus, argument: u16::from(supported), ..event(kind::WRITE) }
 }
 
+/// A read of a block that a key opened.
+pub fn read(nexus: u8, block_kind: u8, key: u8) -> Command {
+    Command { nexus, argument: u16::from_be_bytes([block_kind, key]), ..event(kind::READ) }
+}
+
 /// A vendor release of a place.
 pub fn vendor_release(place: u16) -> Command {
     Command { argument: place, ..event(kind::VENDOR_RELEASE) }

@@ -5,7 +5,7 @@ use super::difference::{bytes_of, compare};
 use super::other_drive::OtherDrive;
 use super::page_builder::SetPage;
 use super::report::difference_text;
-use super::session::{event, load, power_on, read_status, security_in, security_out, write};
+use super::session::{event, load, power_on, read, read_status, security_in, security_out, write};
 use super::{record_builder, Settings};
 use crate::stream::{kind, Command, Drive};
 
@@ -24,11 +24,12 @@ fn some_commands() -> Vec<Command> {
         security_out(3, SetPage::k().bytes()),
         security_in(3, 0x0020, 30),
         write(3, true),
+        read(3, 1, 0),
         event(kind::DEMOUNT),
         write(3, true),
         read_status(vec![0; 24]),
         load(&record_builder::mixed()),
-        event(11),
+        event(12),
         security_in(0, 0x0012, 0),
     ]
 }
@@ -83,7 +84,7 @@ fn answers_one_by_one(settings: &Settings) -> Result<(), String> {
 /// A command's bytes may come one by one.
 fn takes_commands_in_pieces(settings: &Settings) -> Result<(), String> {
     let mut other = start(settings)?;
-    let commands = &some_commands()[..7];
+    let commands = &some_commands()[..8];
     for byte in bytes_of(commands) {
         other.send(vec![byte]);
     }
@@ -136,6 +137,7 @@ fn part_commands() -> Vec<Vec<u8>> {
     let mut parts = vec![Vec::new()];
     for (command, cuts) in [
         (power_on(), &[1, 4, 7][..]),
+        (read(3, 0, 255), &[1, 4, 7]),
         (security_out(3, SetPage::k().bytes()), &[8, 9, 59]),
         (read_status(vec![0; 24]), &[8, 31]),
         (load(&record_builder::mixed()), &[8, 1000, 1324]),

@@ -1,4 +1,5 @@
-//! Each answer number of 01's table, its sense and its "Record change"; and the order of the checks.
+//! Each answer number of 01's table, its sense and its "Record change"; and the order of the checks. Answers 14 to
+//! 17 are read's own.
 
 use crate::given::{after_p2, k, k_but, send, PROTOCOL, SET_PAGE};
 use reference::answer::{Refused, NO_SENSE};
@@ -28,7 +29,12 @@ fn numbers_and_senses() {
         (11, [0x7, 0x2A, 0x13]),
         (12, [0x7, 0x74, 0x07]),
         (13, NO_SENSE),
+        (14, NO_SENSE),
+        (15, [0x7, 0x74, 0x01]),
+        (16, [0x7, 0x74, 0x02]),
+        (17, [0x7, 0x74, 0x03]),
     ];
+    assert_eq!(table.len(), Refused::EVERY.len());
     for ((number, sense), refused) in table.into_iter().zip(Refused::EVERY) {
         assert_eq!((refused.number(), refused.sense()), (number, sense));
     }
@@ -49,6 +55,7 @@ fn answer_1_comes_first_and_changes_nothing() {
     assert_eq!(controller.security_in(99, 0, 0x99, &mut []), Err(refused));
     assert_eq!(controller.security_out(99, 0, 0x99, &[]), Err(refused));
     assert_eq!(controller.write(99, true), Err(refused));
+    assert_eq!(controller.read(99, 3, 99), Err(refused));
     assert_eq!(controller.logical_unit_reset(), Err(refused));
     assert_eq!(controller.demount(), Err(refused));
     assert_eq!(controller.nexus_reservation_loss(99), Err(refused));
@@ -66,6 +73,7 @@ fn answer_2_for_each_call_with_a_nexus() {
     assert_eq!(controller.security_in(16, 0, 0x99, &mut []), Err(Refused::NexusAbove15));
     assert_eq!(controller.security_out(255, 0, 0x99, &[]), Err(Refused::NexusAbove15));
     assert_eq!(controller.write(16, true), Err(Refused::NexusAbove15));
+    assert_eq!(controller.read(16, 3, 99), Err(Refused::NexusAbove15));
     assert_eq!(controller.nexus_reservation_loss(16), Err(Refused::NexusAbove15));
     assert_eq!(controller.preempt(16), Err(Refused::NexusAbove15));
     assert_eq!(controller.record, before);

@@ -1,4 +1,4 @@
-//! Tests of the reference against document 01.
+//! Tests of the reference against document 01, and request 1 of document 02.
 
 #![forbid(unsafe_code)]
 
@@ -8,6 +8,7 @@ mod examples;
 mod faulty_byte;
 mod given;
 mod page;
+mod reads;
 mod record_bytes;
 mod response_pages;
 mod status_page;

@@ -3,7 +3,7 @@
 use crate::given::k;
 use reference::comparison::record_builder::mixed;
 use reference::comparison::session::{
-    event, give_record, load, load_bytes, power_on, read_status, security_in, security_out, write,
+    event, give_record, load, load_bytes, power_on, read, read_status, security_in, security_out, write,
 };
 use reference::record_bytes::give;
 use reference::stream::{serve, Command, Drive};
@@ -46,6 +46,37 @@ fn write_gives_three_bytes() {
 }
 
 #[test]
+fn read_gives_two_bytes() {
+    let mut bytes = Vec::new();
+    read(3, 1, 2).give(&mut bytes);
+    assert_eq!(bytes, [11, 3, 1, 2, 0, 0, 0, 0]);
+    let given = replies_to(&[security_out(3, k()), read(3, 1, 0), read(4, 0, 255)]);
+    assert_eq!(given[6..], [0, 0, 0, 0, 0, 2, 2, 1, 0, 0, 0, 0, 0, 2, 0, 0]);
+    let refused = replies_to(&[security_out(3, k()), read(3, 1, 1), read(4, 1, 255), read(3, 0, 0)]);
+    assert_eq!(refused[6..], [14, 0, 0, 0, 0, 0, 15, 7, 0x74, 1, 0, 0, 16, 7, 0x74, 2, 0, 0]);
+    assert_eq!(replies_to(&[security_out(3, k()), read(3, 1, 255)])[6..], [17, 7, 0x74, 3, 0, 0]);
+}
+
+#[test]
+fn read_gives_0_plain_1_raw_2_decrypted() {
+    let k_with_mode = |mode| {
+        let mut page = k();
+        page[7] = mode;
+        security_out(3, page)
+    };
+    let given = replies_to(&[k_with_mode(1), read(3, 0, 255), read(3, 2, 255)]);
+    assert_eq!(given[6..], [0, 0, 0, 0, 0, 2, 0, 1, 0, 0, 0, 0, 0, 2, 1, 1]);
+    let given = replies_to(&[k_with_mode(3), read(3, 0, 255), read(3, 1, 0)]);
+    assert_eq!(given[6..], [0, 0, 0, 0, 0, 2, 0, 1, 0, 0, 0, 0, 0, 2, 2, 1]);
+}
+
+#[test]
+fn a_read_ignores_protocol_port_and_length() {
+    let read = Command { protocol: 0x99, port: 7, length: 500, ..read(3, 0, 255) };
+    assert_eq!(replies_to(&[read.clone(), read]), [0, 0, 0, 0, 0, 2, 0, 0, 0, 0, 0, 0, 0, 2, 0, 0]);
+}
+
+#[test]
 fn the_status_reader_gives_57_bytes() {
     let mut page = vec![0x00, 0x20, 0x00, 25, 0x42, 2, 3, 1, 1, 2, 3, 4, 0x05];
     page.resize(24, 0);
@@ -80,7 +111,7 @@ fn a_record_that_is_not_well_formed_is_taken_and_given_and_refused() {
 
 #[test]
 fn unknown_kinds_have_no_data() {
-    let unknown = Command { length: 500, ..event(11) };
+    let unknown = Command { length: 500, ..event(12) };
     assert_eq!(replies_to(&[unknown, event(252)]), [255, 0, 0, 0, 0, 0, 255, 0, 0, 0, 0, 0]);
 }
 

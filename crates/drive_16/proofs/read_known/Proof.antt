@@ -1,10 +1,9 @@
 use borrow.Author.Needs.{needs}
 use mathlib.Core.Path.{_≡_, refl, sym, ap, _∙_}
-use mathlib.Core.Bool.{true}
 use mathlib.Core.List.{List, [], _∷_}
 use lib.ListN.{length}
 use Rattle.arrays.proofs.Laws.{sized-field}
-use Rattle.answer.specs.Answers.{isDone, senseOf}
+use Rattle.answer.specs.Answers.{senseOf}
 use Rattle.answer.specs.declared.Answer.{Answer}
 use Rattle.answer.specs.declared.Answer.the-variants.{Done}
 use Rattle.device.specs.Record.{setAt}

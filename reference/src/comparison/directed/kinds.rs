@@ -4,8 +4,8 @@
 use crate::comparison::page_builder::{set_length, SetPage};
 use crate::comparison::record_builder::{full, mixed};
 use crate::comparison::session::{
-    event, event_of, load_bytes, power_on, read_status, security_in, security_out, vendor_release, write,
-    Session, Sink, Stage,
+    event, event_of, load_bytes, power_on, read, read_status, security_in, security_out, vendor_release,
+    write, Session, Sink, Stage,
 };
 use crate::stream::{kind, Command};
 
@@ -17,13 +17,13 @@ pub fn sessions(sink: &mut Sink) {
     largest_data(sink);
 }
 
-/// Kinds 11 to 252 are unknown; so are a support flag above 1 and a lent buffer above the limit.
+/// Kinds 12 to 252 are unknown; so are a support flag above 1 and a lent buffer above the limit.
 fn unknown_kinds(sink: &mut Sink) {
     let mut stage = Stage::new("unknown kinds", mixed(), sink);
-    for kind in 11..=252 {
+    for kind in 12..=252 {
         stage.call(event_of(kind, 3));
     }
-    stage.call(Command { length: 40, ..event(11) });
+    stage.call(Command { length: 40, ..event(12) });
     for argument in [2, 3, 0x0100, 0xFFFF] {
         stage.call(Command { argument, ..write(3, true) });
     }
@@ -39,6 +39,7 @@ fn nexuses(sink: &mut Sink) {
     let mut stage = Stage::new("nexuses in and out of range", mixed(), sink);
     for nexus in 0..=255 {
         stage.call(write(nexus, true));
+        stage.call(read(nexus, 0, 255));
         stage.call(security_in(nexus, 0x0020, 76));
         stage.call(security_out(nexus, SetPage::k().bytes()));
         stage.call(event_of(kind::NEXUS_RESERVATION_LOSS, nexus));
@@ -90,6 +91,7 @@ fn unread_fields(sink: &mut Sink) {
     }
     stage.call(Command { nexus, protocol, length, ..vendor_release(2) });
     stage.call(Command { protocol, length, ..write(1, true) });
+    stage.call(Command { protocol, length, ..read(1, 1, 0) });
     stage.call(Command { nexus, argument, protocol, ..read_status(vec![0; 24]) });
     stage.call(Command { nexus, argument, protocol, ..load_bytes(vec![0; 1317]) });
     stage.finish();

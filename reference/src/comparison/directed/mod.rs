@@ -9,7 +9,10 @@ mod kinds;
 mod page_rules;
 mod pending;
 mod places;
+mod read_checks;
+mod reads;
 mod records;
+mod restoring;
 mod status;
 mod writes;
 
@@ -21,6 +24,9 @@ pub fn sessions(sink: &mut Sink) {
     kinds::sessions(sink);
     buffers::sessions(sink);
     writes::sessions(sink);
+    reads::sessions(sink);
+    read_checks::sessions(sink);
+    restoring::sessions(sink);
     pending::sessions(sink);
     places::sessions(sink);
     events::sessions(sink);

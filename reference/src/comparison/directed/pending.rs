@@ -3,7 +3,7 @@
 use crate::comparison::page_builder::SetPage;
 use crate::comparison::record_builder::mixed;
 use crate::comparison::session::{
-    event, event_of, load, read_status, security_in, security_out, vendor_release, write, Session, Sink,
+    event, event_of, load, read, read_status, security_in, security_out, vendor_release, write, Session, Sink,
 };
 use crate::record::Record;
 use crate::stream::{kind, Command};
@@ -22,6 +22,8 @@ fn calls(nexus: u8) -> Vec<Command> {
         security_out(nexus, SetPage::public(false).bytes()),
         write(nexus, true),
         write(nexus, false),
+        read(nexus, 1, 0),
+        read(nexus, 3, 5),
         event(kind::LOGICAL_UNIT_RESET),
         event(kind::DEMOUNT),
         event_of(kind::NEXUS_RESERVATION_LOSS, nexus),
