@@ -25,6 +25,10 @@ pub first-passes : (a b : List Answer) → isDone (firstOf a) ≡ true → first
 first-passes [] b e = refl
 first-passes (x ∷ a) b e = cases (isDone x) (λ t. rw t (first-passes a b (rw t at e))) (λ t. clash (rw t at e) t)
 
+-- where none of them finds a fault, the first find none
+pub front-done : (a b : List Answer) → isDone (firstOf (a ++ b)) ≡ true → isDone (firstOf a) ≡ true
+front-done a b e = cases (isDone (firstOf a)) (λ t. t) (λ f. clash e (ap isDone (first-stops a b f) ∙ f))
+
 -- the first check's fault
 pub first-fault : (a : Answer) (more : List Answer) → isDone a ≡ false → firstOf (a ∷ more) ≡ a
 first-fault a more f = rw f

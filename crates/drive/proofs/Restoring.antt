@@ -2,20 +2,21 @@
 -- Assumes nothing.
 use Prim.Native.Nat.{ℕ, _+_, _*_, _/_, _%_, _<_}
 use mathlib.Core.Path.{_≡_, refl, sym, ap, subst, _∙_}
-use mathlib.Core.Bool.{Bool, true, false, not}
+use mathlib.Core.Bool.{Bool, true, false, not, _||_, or-true}
 use mathlib.Core.List.{[], _∷_}
 use native.Mathlib.Omega.{arith}
-use borrow.Author.Tests.{ltb-true, ltb-false}
+use borrow.Author.Tests.{le-leb, ltb-true, ltb-false, ne-eqb}
 use lib.Dec.{eqb, leb, ltb}
 use lib.ListN.{length}
 use Rattle.arrays.specs.Base.{if_then_else_}
 use Rattle.arrays.proofs.Base.{cases, clash}
 use Rattle.answer.specs.Answers.{numberOf, changeOf, isDone}
 use Rattle.answer.specs.declared.Answer.{Answer}
-use Rattle.answer.specs.declared.Answer.the-variants.{NotWellFormed, NexusAbove, ChangedByAnotherNexus, ChangedByVendorEvent}
+use Rattle.answer.specs.declared.Answer.the-variants.{Done, NotWellFormed, NexusAbove, ChangedByAnotherNexus, ChangedByVendorEvent}
 use Rattle.answer.proofs.Numbers.{done-is}
 use Rattle.answer.specs.declared.Change.{Change}
 use Rattle.answer.specs.declared.Change.the-variants.{Unchanged, AnotherCleared, VendorCleared, Registered}
+use Rattle.parameters.specs.Codes.{disable, raw, encrypts, decrypts}
 use Rattle.parameters.specs.Fields.{keySize}
 use Rattle.page.specs.Rules.{keyLength}
 use Rattle.device.specs.Record.{State, nexusAt}
@@ -28,16 +29,18 @@ use Rattle.device.specs.declared.Marks.{Marks}
 use Rattle.marks.specs.Marks.{changes, changed}
 use Rattle.marks.specs.declared.Actor.the-variants.{Acting}
 use Rattle.drive.specs.declared.Block.{Block}
-use Rattle.drive.specs.declared.ReadDecision.the-variants.{Withheld}
-use Rattle.drive.specs.Calls.{read}
-use Rattle.drive.specs.Checks.{answerIf, firstOf, check1, heardOf, checks, answer}
+use Rattle.drive.specs.declared.ReadDecision.the-variants.{Withheld, Decrypted}
+use Rattle.drive.specs.declared.Verdict.{Verdict}
+use Rattle.drive.specs.Calls.{write, read}
+use Rattle.drive.specs.Checks.{answerIf, firstOf, check1, heardOf, permitted, checks, answer}
 use Rattle.drive.specs.Effects.{refusal}
 use Rattle.drive.specs.After.{byNumber, carriedOut, actionsOf, after}
 use Rattle.drive.specs.Outcomes.{readDecision, decidedPlace}
-use Rattle.drive.specs.Restoring.{blockOf, holdsKey, restored}
+use Rattle.drive.specs.Restoring.{encryptedKind, blockOf, passes, underMode, holdsKey, restored}
 use Rattle.drive.specs.Refusals.{OnlyMarks}
-use Rattle.drive.specs.RestoringClaims.{withoutLocks, ReadAlike, readNumber, onlyFlag, ReadLeaves}
-use Rattle.drive.proofs.Checks.{first-stops, first-passes, last-is}
+use Rattle.drive.specs.RestoringClaims.{withoutLocks, ReadAlike, readNumber, onlyFlag, ReadLeaves, GivenBack}
+use Rattle.drive.specs.Claims.{block}
+use Rattle.drive.proofs.Checks.{first-stops, first-passes, front-done, last-is}
 use Rattle.drive.proofs.Effects.{refusal-changes, restored-own, read-effect}
 use Rattle.drive.proofs.Refusals.{changes-marks}
 use Rattle.drive.proofs.Seen.{Seen, selected-seen, used-seen, good-seen, read-kept}
@@ -163,6 +166,36 @@ read-leaves s n block =
           (λ h. ap (λ (x : Marks). x .registered) (only .own m t (ltb-true _ _ h) .marks) ∙ flag-registered change (nexusAt s m .marks) flag)
           (λ h. ap (λ (x : State). nexusAt x m .marks .registered) (only .above m t (ltb-false _ _ h))))
           (λ f. ap (λ (x : Nexus). x .marks .registered) (only .others m f));
+    }
+
+-- ---- what was written is read
+
+-- under a set that decrypts, a block that its main key opened is given decrypted
+main-opens : (set : Set) → decrypts (set .fields .decryption) ≡ true → restored set (block encryptedKind 0) ≡ passes Decrypted
+unfolding underMode
+main-opens set h =
+    let mode = set .fields .decryption in
+    let off : eqb mode disable ≡ false = ne-eqb mode disable (λ e. clash h (ap decrypts e)) in
+    let notRaw : eqb mode raw ≡ false = ne-eqb mode raw (λ e. clash h (ap decrypts e)) in
+    let held : holdsKey set ≡ true = ap (λ b. encrypts (set .fields .encryption) || b) h ∙ or-true (encrypts (set .fields .encryption)) in
+    let first : leb 0 (set .supplemental .count) ≡ true = le-leb 0 (set .supplemental .count) (omega arith) in
+    simp (held, off, notRaw, first)
+
+-- Where a nexus may write, and its set decrypts, a block that its main key opened is given back decrypted, from the same place.
+pub given-back : (s : State) (n : ℕ) (supported : Bool) → isDone (answer s (write n supported)) ≡ true → decrypts (selectedSet s n .fields .decryption) ≡ true
+    → GivenBack s n (block encryptedKind 0) supported
+unfolding answer checks
+given-back s n supported w h =
+    let front = check1 s ∷ heardOf s n in
+    let verdict = main-opens (selectedSet s n) h in
+    let own = permitted (nexusAt s n) (selectedSet s n) supported in
+    let a = restored (selectedSet s n) (block encryptedKind 0) .answer in
+    let read-done : answer s (read n (block encryptedKind 0)) ≡ Done =
+    first-passes front (a ∷ []) (front-done front own w) ∙ last-is a ∙ ap (λ (v : Verdict). v .answer) verdict in
+    record {
+      done = read-done;
+      decrypted = ap (readDecision s n (block encryptedKind 0)) read-done ∙ ap (λ (v : Verdict). v .decision) verdict;
+      placed = ap (decidedPlace s n) (read-done ∙ sym (done-is (answer s (write n supported)) w));
     }
 
 -- ---- keys, and a block as one number

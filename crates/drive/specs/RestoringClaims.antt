@@ -7,6 +7,7 @@ use lib.Dec.{leb}
 use Rattle.arrays.specs.Base.{if_then_else_}
 use Rattle.kad.specs.Kad.{noKads}
 use Rattle.answer.specs.Answers.{numberOf, changeOf, isDone}
+use Rattle.answer.specs.declared.Answer.the-variants.{Done}
 use Rattle.answer.specs.declared.Change.{Change}
 use Rattle.answer.specs.declared.Change.the-variants.{Unchanged, AnotherCleared, VendorCleared, Registered}
 use Rattle.parameters.specs.Codes.{allScope}
@@ -16,7 +17,8 @@ use Rattle.device.specs.Record.{State, nexusAt, established}
 use Rattle.device.specs.Updates.{withLock, withSaved, withScope, withSupplemental, atPlace, atNexus, mapped}
 use Rattle.marks.specs.declared.Actor.the-variants.{Acting}
 use Rattle.drive.specs.declared.Block.{Block}
-use Rattle.drive.specs.Calls.{read}
+use Rattle.drive.specs.declared.ReadDecision.the-variants.{Decrypted}
+use Rattle.drive.specs.Calls.{write, read}
 use Rattle.drive.specs.Checks.{answer}
 use Rattle.drive.specs.After.{actions, after}
 use Rattle.drive.specs.Outcomes.{readDecision, decidedPlace}
@@ -56,6 +58,14 @@ pub record ReadLeaves (s : State) (n : ℕ) (block : Block) : Type 0 where
   pub only : OnlyMarks (Acting n) (changeOf (answer s (read n block))) s (after s (read n block))
   pub flag : onlyFlag (changeOf (answer s (read n block))) ≡ true
   pub registered : (m : ℕ) → nexusAt (after s (read n block)) m .marks .registered ≡ nexusAt s m .marks .registered
+
+-- ---- what was written is read
+
+-- a block that a nexus is given decrypted, from the place where it writes
+pub record GivenBack (s : State) (n : ℕ) (block : Block) (supported : Bool) : Type 0 where
+  pub done : answer s (read n block) ≡ Done
+  pub decrypted : readDecision s n block (answer s (read n block)) ≡ Decrypted
+  pub placed : decidedPlace s n (answer s (read n block)) ≡ decidedPlace s n (answer s (write n supported))
 
 -- ---- the table of modes, kinds and keys
 
