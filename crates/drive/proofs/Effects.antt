@@ -13,7 +13,7 @@ use Rattle.arrays.proofs.Base.{cases, clash, if-elim, if-false}
 use Rattle.arrays.proofs.Laws.{length-mapFrom}
 use Rattle.answer.specs.Answers.{numberOf, isDone, changeOf}
 use Rattle.answer.specs.declared.Answer.{Answer}
-use Rattle.answer.specs.declared.Answer.the-variants.{Done, NexusAbove, NoPlaceForLocal, KeyInstanceChanged, ParametersNotUsable, BlockNotKnown, UnableToDecrypt, NotEncrypted, KeyIncorrect}
+use Rattle.answer.specs.declared.Answer.the-variants.{Done, NexusAbove, NoPlaceForLocal, KeyInstanceChanged, ParametersNotUsable}
 use Rattle.answer.specs.declared.Change.{Change}
 use Rattle.answer.specs.declared.Change.the-variants.{Unchanged, AnotherCleared, VendorCleared, Registered}
 use Rattle.answer.proofs.Numbers.{done-is}
@@ -34,8 +34,8 @@ use Rattle.places.proofs.Lengths.{SameSize, size-stays, size-then, power-places
 use Rattle.drive.specs.declared.Command.{Command}
 use Rattle.drive.specs.declared.Block.{Block}
 use Rattle.drive.specs.declared.Verdict.{Verdict}
-use Rattle.drive.specs.declared.ReadDecision.the-variants.{Plain, Raw, Decrypted}
-use Rattle.drive.specs.Restoring.{plainKind, encryptedKind, noKey, passes, stopped, underMode, notKnown, restored}
+use Rattle.drive.specs.declared.ReadDecision.{ReadDecision}
+use Rattle.drive.specs.Restoring.{plainKind, encryptedKind, noKey, underMode, notKnown, restored}
 use Rattle.drive.specs.RestoringClaims.{readNumber}
 use Rattle.drive.specs.Calls.{Call, powerUp, securityIn, securityOut, write, read, unitReset, happens, senderOf}
 use Rattle.status.specs.Pages.{isOutPage}
@@ -240,27 +240,23 @@ pub record ReadVerdict (v : Verdict) : Type 0 where
   pub number : readNumber (numberOf (v .answer)) ≡ true
   pub quiet : changeOf (v .answer) ≡ Unchanged
 
--- either of two
+-- one of two, and each by itself
 either : (b : Bool) {x y : Verdict} → ReadVerdict x → ReadVerdict y → ReadVerdict (if b then x else y)
 either b p q = if-elim ReadVerdict b (λ t. p) (λ f. q)
+
+each : (a : Answer) (decision : ReadDecision) → readNumber (numberOf a) ≡ true → changeOf a ≡ Unchanged → ReadVerdict (record { answer = a; decision = decision })
+each a decision n q = record { number = n; quiet = q }
 
 pub restored-own : (set : Set) (block : Block) → ReadVerdict (restored set block)
 unfolding underMode
 restored-own set block =
-    let plain : ReadVerdict (passes Plain) = record { number = refl; quiet = refl } in
-    let asRaw : ReadVerdict (passes Raw) = record { number = refl; quiet = refl } in
-    let decrypted : ReadVerdict (passes Decrypted) = record { number = refl; quiet = refl } in
-    let unknown : ReadVerdict (stopped BlockNotKnown) = record { number = refl; quiet = refl } in
-    let unable : ReadVerdict (stopped UnableToDecrypt) = record { number = refl; quiet = refl } in
-    let notEncrypted : ReadVerdict (stopped NotEncrypted) = record { number = refl; quiet = refl } in
-    let incorrect : ReadVerdict (stopped KeyIncorrect) = record { number = refl; quiet = refl } in
     let mode = set .fields .decryption in
     let isPlain = eqb (block .kind) plainKind in
-    either (notKnown set block) unknown
-    (either (eqb mode disable) (either isPlain plain unable)
-    (either (eqb mode raw) (either isPlain plain asRaw)
-    (either isPlain (either (eqb mode decrypt) notEncrypted plain)
-    (either (eqb (block .kind) encryptedKind) (either (eqb (block .key) noKey) incorrect decrypted) unable))))
+    either (notKnown set block) (each _ _ refl refl)
+    (either (eqb mode disable) (either isPlain (each _ _ refl refl) (each _ _ refl refl))
+    (either (eqb mode raw) (either isPlain (each _ _ refl refl) (each _ _ refl refl))
+    (either isPlain (either (eqb mode decrypt) (each _ _ refl refl) (each _ _ refl refl))
+    (either (eqb (block .kind) encryptedKind) (either (eqb (block .key) noKey) (each _ _ refl refl) (each _ _ refl refl)) (each _ _ refl refl)))))
 
 pub read-effect : (s : State) (n : ℕ) (block : Block) → effect s (read n block) ≡ refusal (Acting n) (changeOf (firstOf (check1 s ∷ heardOf s n)))
 unfolding effectBy answer checks
