@@ -33,7 +33,7 @@ use Rattle.places.specs.Actions.{noPlace, releases, releasedBy, taken}
 use Rattle.places.proofs.Lengths.{SameSize, size-stays, size-then, power-places, power-nexuses, acts-size, taken-size}
 use Rattle.drive.specs.declared.Command.{Command}
 use Rattle.drive.specs.declared.Block.{Block}
-use Rattle.drive.specs.declared.Verdict.{Verdict}
+use Rattle.drive.specs.declared.Ruling.{Ruling}
 use Rattle.drive.specs.declared.ReadDecision.{ReadDecision}
 use Rattle.drive.specs.Restoring.{plainKind, encryptedKind, noKey, underMode, notKnown, restored}
 use Rattle.drive.specs.RestoringClaims.{readNumber}
@@ -236,18 +236,18 @@ write-effect s n supported =
     (permitted-quiet (instanceChanged (nexusAt s n) (selectedSet s n)) (notUsable (selectedSet s n) supported))
 
 -- a read's own answers are 0 and 14 to 17, which change nothing
-pub record ReadVerdict (v : Verdict) : Type 0 where
+pub record ReadRuling (v : Ruling) : Type 0 where
   pub number : readNumber (numberOf (v .answer)) ≡ true
   pub quiet : changeOf (v .answer) ≡ Unchanged
 
 -- one of two, and each by itself
-either : (b : Bool) {x y : Verdict} → ReadVerdict x → ReadVerdict y → ReadVerdict (if b then x else y)
-either b p q = if-elim ReadVerdict b (λ t. p) (λ f. q)
+either : (b : Bool) {x y : Ruling} → ReadRuling x → ReadRuling y → ReadRuling (if b then x else y)
+either b p q = if-elim ReadRuling b (λ t. p) (λ f. q)
 
-each : (a : Answer) (decision : ReadDecision) → readNumber (numberOf a) ≡ true → changeOf a ≡ Unchanged → ReadVerdict (record { answer = a; decision = decision })
+each : (a : Answer) (decision : ReadDecision) → readNumber (numberOf a) ≡ true → changeOf a ≡ Unchanged → ReadRuling (record { answer = a; decision = decision })
 each a decision n q = record { number = n; quiet = q }
 
-pub restored-own : (set : Set) (block : Block) → ReadVerdict (restored set block)
+pub restored-own : (set : Set) (block : Block) → ReadRuling (restored set block)
 unfolding underMode
 restored-own set block =
     let mode = set .fields .decryption in
@@ -261,8 +261,8 @@ restored-own set block =
 pub read-effect : (s : State) (n : ℕ) (block : Block) → effect s (read n block) ≡ refusal (Acting n) (changeOf (firstOf (check1 s ∷ heardOf s n)))
 unfolding effectBy answer checks
 read-effect s n block =
-    let verdict = restored (selectedSet s n) block in
-    heard-effect s n (verdict .answer ∷ []) (ap changeOf (last-is (verdict .answer)) ∙ restored-own (selectedSet s n) block .quiet)
+    let ruling = restored (selectedSet s n) block in
+    heard-effect s n (ruling .answer ∷ []) (ap changeOf (last-is (ruling .answer)) ∙ restored-own (selectedSet s n) block .quiet)
 
 -- ---- no effect changes the number of places or of nexuses
 

@@ -35,28 +35,21 @@ use Rattle.drive.specs.After.{actionsOf}
 use Rattle.drive.proofs.Seen.{Seen, owns-kept, find-kept, nexus-seen, owned-seen, selected-seen, used-seen, nexuses-kept, places-kept, good-seen, heard-kept}
 use Rattle.drive.proofs.Effects.{write-effect, read-effect}
 
--- what two maps keep, of a set and of a nexus: what the rules read of them
+-- what two maps keep besides: all that the rules of a page and of an event read of a set and of a nexus
 pub record Keeps (f : Set → Set) (g : Nexus → Nexus) : Type 0 where
-  pub owner : (x : Set) → f x .owner ≡ x .owner
-  pub scope : (x : Set) → f x .scope ≡ x .scope
+  pub seen : Seen f g
   pub decryption : (x : Set) → f x .fields .decryption ≡ x .fields .decryption
   pub ckod : (x : Set) → f x .fields .ckod ≡ x .fields .ckod
   pub ckorp : (x : Set) → f x .fields .ckorp ≡ x .fields .ckorp
   pub ckorl : (x : Set) → f x .fields .ckorl ≡ x .fields .ckorl
   pub count : (x : Set) → f x .supplemental .count ≡ x .supplemental .count
-  pub nexusScope : (x : Nexus) → g x .scope ≡ x .scope
   pub lock : (x : Nexus) → g x .lock ≡ x .lock
-  pub marks : (x : Nexus) → g x .marks ≡ x .marks
 
 module _ (f : Set → Set) (g : Nexus → Nexus) (k : Keeps f g) where
-  -- what is seen of them
-  seen : Seen f g
-  seen = record { owner = k .owner; scope = k .scope; nexusScope = k .nexusScope; marks = k .marks }
-
   -- which sets an event releases
   released-kept : (event : Event) (place : ℕ) (x : Set) → releasedBy event place (f x) ≡ releasedBy event place x
   released-kept Demount place x = k .ckod x
-  released-kept (NexusLoss n) place x = ap₂ _&&_ (owns-kept f g seen n x) (k .ckorl x)
+  released-kept (NexusLoss n) place x = ap₂ _&&_ (owns-kept f g (k .seen) n x) (k .ckorl x)
   released-kept DeviceLoss place x = ap (λ b. eqb place 0 && b) (k .ckorl x)
   released-kept (Preempt n) place x = k .ckorp x
   released-kept Microcode place x = refl
@@ -66,33 +59,29 @@ module _ (f : Set → Set) (g : Nexus → Nexus) (k : Keeps f g) where
   pub releases-kept : (p : ℕ → Set → Bool) → ((i : ℕ) (x : Set) → p i (f x) ≡ p i x) → (l : List Set) → releases p (map f l) ≡ releases p l
   unfolding releases
   releases-kept p e l =
-      foldFrom-map f _ _ [] (λ i x r. ap₂ (λ a b. if not (eqb a 0) && b then release i ∷ r else r) (k .scope x) (e i x)) 0 l
+      foldFrom-map f _ _ [] (λ i x r. ap₂ (λ a b. if not (eqb a 0) && b then release i ∷ r else r) (k .seen .scope x) (e i x)) 0 l
 
   module _ (c : ℕ → ℕ) (s : State) where
     abbrev t : State
     t = mapped c f g s
 
-    -- the place whose set the nexus uses
-    pub selected-kept : (n : ℕ) → selected t n ≡ selected s n
-    selected-kept n = selected-seen f g seen c s n
-
     -- the nexus's scope
     scope-kept : (n : ℕ) → nexusAt t n .scope ≡ nexusAt s n .scope
-    scope-kept n = nexus-seen f g seen c s (λ x. x .scope) (k .nexusScope) n
+    scope-kept n = nexus-seen f g (k .seen) c s (λ x. x .scope) (k .seen .nexusScope) n
 
     -- the nexus's own place
     own-kept : (n : ℕ) → ownPlace t n ≡ ownPlace s n
     unfolding ownPlace
-    own-kept n = ap₂ (λ a b. if eqb a localScope then b else Nowhere) (scope-kept n) (owned-seen f g seen c s n)
+    own-kept n = ap₂ (λ a b. if eqb a localScope then b else Nowhere) (scope-kept n) (owned-seen f g (k .seen) c s n)
 
     -- the place of a LOCAL page
     room-kept : (n : ℕ) → room t n ≡ room s n
     unfolding room
     room-kept n =
-        let free : find At Nowhere emptyLocal (t .sets) ≡ find At Nowhere emptyLocal (s .sets) = find-kept f g seen emptyLocal emptyLocal (λ i x. ap (λ a. not (eqb i 0) && eqb a 0) (k .scope x)) (s .sets) in
+        let free : find At Nowhere emptyLocal (t .sets) ≡ find At Nowhere emptyLocal (s .sets) = find-kept f g (k .seen) emptyLocal emptyLocal (λ i x. ap (λ a. not (eqb i 0) && eqb a 0) (k .seen .scope x)) (s .sets) in
         let lent : find At Nowhere (unlockedLocal t) (t .sets) ≡ find At Nowhere (unlockedLocal s) (s .sets) =
-        find-kept f g seen (unlockedLocal t) (unlockedLocal s)
-        (λ i x. ap (λ o. not (eqb i 0) && not (nexusAt t o .lock)) (k .owner x) ∙ ap (λ l. not (eqb i 0) && not l) (nexus-seen f g seen c s (λ y. y .lock) (k .lock) (x .owner)))
+        find-kept f g (k .seen) (unlockedLocal t) (unlockedLocal s)
+        (λ i x. ap (λ o. not (eqb i 0) && not (nexusAt t o .lock)) (k .seen .owner x) ∙ ap (λ l. not (eqb i 0) && not l) (nexus-seen f g (k .seen) c s (λ y. y .lock) (k .lock) (x .owner)))
         (s .sets) in
         λ i. freeAt (own-kept n i) (freeAt (free i) (evictingAt (lent i)))
 
@@ -100,8 +89,8 @@ module _ (f : Set → Set) (g : Nexus → Nexus) (k : Keeps f g) where
     page-kept : (n : ℕ) (page : List ℕ) → pageChecked t n page ≡ pageChecked s n page
     page-kept n page =
         let m = scope-kept n in
-        let d = used-seen f g seen c s (λ x. x .fields .decryption) (k .decryption) n in
-        let o = used-seen f g seen c s (λ x. x .supplemental .count) (k .count) n in
+        let d = used-seen f g (k .seen) c s (λ x. x .fields .decryption) (k .decryption) n in
+        let o = used-seen f g (k .seen) c s (λ x. x .supplemental .count) (k .count) n in
         λ i. checked page (m i) (d i) (o i)
 
     -- what a page does to the places
@@ -119,15 +108,11 @@ module _ (f : Set → Set) (g : Nexus → Nexus) (k : Keeps f g) where
     actions-kept (releasing event) = releases-kept (releasedBy event) (released-kept event) (s .sets)
     actions-kept restarts = refl
 
-    -- being well formed, where the map keeps each set as good as it was
-    pub good-kept : ((nexuses place : ℕ) (x : Set) → setGood nexuses place (f x) ≡ setGood nexuses place x) → wellFormed t ≡ wellFormed s
-    good-kept = good-seen f g seen c s
-
     -- where the maps keep being well formed
     module _ (formed : wellFormed t ≡ wellFormed s) where
       -- checks 1 to 4
       first-kept : (n : ℕ) → check1 t ∷ heardOf t n ≡ check1 s ∷ heardOf s n
-      first-kept = heard-kept f g seen c s formed
+      first-kept = heard-kept f g (k .seen) c s formed
 
       -- the answer to SECURITY PROTOCOL IN
       in-kept : (command : Command) → answer t (securityIn command) ≡ answer s (securityIn command)
@@ -151,7 +136,7 @@ module _ (f : Set → Set) (g : Nexus → Nexus) (k : Keeps f g) where
       -- the answer to an event
       event-kept : (event : Event) → answer t (happens event) ≡ answer s (happens event)
       unfolding answer checks
-      event-kept event = λ i. firstOf (answerIf (not (formed i)) NotWellFormed ∷ eventCheck (nexuses-kept f g seen c s i) (places-kept f g seen c s i) event ∷ [])
+      event-kept event = λ i. firstOf (answerIf (not (formed i)) NotWellFormed ∷ eventCheck (nexuses-kept f g (k .seen) c s i) (places-kept f g (k .seen) c s i) event ∷ [])
 
       -- every call does what it did: a write's answer 11 alone looks at a number, and it does nothing
       pub effect-kept : (call : Call) → effect t call ≡ effect s call

@@ -5,18 +5,18 @@ use mathlib.Core.Path.{_≡_, refl, sym, ap, subst, _∙_}
 use mathlib.Core.Bool.{Bool, true, false, not, _||_, or-true}
 use mathlib.Core.List.{[], _∷_}
 use native.Mathlib.Omega.{arith}
-use borrow.Author.Tests.{le-leb, ltb-true, ltb-false, ne-eqb}
+use borrow.Author.Tests.{eqb-true, eqb-false, eq-eqb, ne-eqb, leb-true, le-leb, ltb-true, ltb-false, not-false}
 use lib.Dec.{eqb, leb, ltb}
 use lib.ListN.{length}
 use Rattle.arrays.specs.Base.{if_then_else_}
-use Rattle.arrays.proofs.Base.{cases, clash}
+use Rattle.arrays.proofs.Base.{cases, clash, if-elim, or-other, or-left-false, or-right-false}
 use Rattle.answer.specs.Answers.{numberOf, changeOf, isDone}
 use Rattle.answer.specs.declared.Answer.{Answer}
 use Rattle.answer.specs.declared.Answer.the-variants.{Done, NotWellFormed, NexusAbove, ChangedByAnotherNexus, ChangedByVendorEvent}
 use Rattle.answer.proofs.Numbers.{done-is}
 use Rattle.answer.specs.declared.Change.{Change}
 use Rattle.answer.specs.declared.Change.the-variants.{Unchanged, AnotherCleared, VendorCleared, Registered}
-use Rattle.parameters.specs.Codes.{disable, raw, encrypts, decrypts}
+use Rattle.parameters.specs.Codes.{disable, raw, decrypt, encrypts, decrypts}
 use Rattle.parameters.specs.Fields.{keySize}
 use Rattle.page.specs.Rules.{keyLength}
 use Rattle.device.specs.Record.{State, nexusAt}
@@ -29,16 +29,17 @@ use Rattle.device.specs.declared.Marks.{Marks}
 use Rattle.marks.specs.Marks.{changes, changed}
 use Rattle.marks.specs.declared.Actor.the-variants.{Acting}
 use Rattle.drive.specs.declared.Block.{Block}
-use Rattle.drive.specs.declared.ReadDecision.the-variants.{Withheld, Decrypted}
-use Rattle.drive.specs.declared.Verdict.{Verdict}
+use Rattle.drive.specs.declared.ReadDecision.{ReadDecision}
+use Rattle.drive.specs.declared.ReadDecision.the-variants.{Withheld, Plain, Raw, Decrypted}
+use Rattle.drive.specs.declared.Ruling.{Ruling}
 use Rattle.drive.specs.Calls.{write, read}
 use Rattle.drive.specs.Checks.{answerIf, firstOf, check1, heardOf, permitted, checks, answer}
 use Rattle.drive.specs.Effects.{refusal}
 use Rattle.drive.specs.After.{byNumber, carriedOut, actionsOf, after}
 use Rattle.drive.specs.Outcomes.{readDecision, decidedPlace}
-use Rattle.drive.specs.Restoring.{encryptedKind, blockOf, passes, underMode, holdsKey, restored}
+use Rattle.drive.specs.Restoring.{plainKind, encryptedKind, otherKind, noKey, blockOf, passes, underMode, holdsKey, hasKey, notKnown, restored, readValueOf}
 use Rattle.drive.specs.Refusals.{OnlyMarks}
-use Rattle.drive.specs.RestoringClaims.{withoutLocks, ReadAlike, readNumber, onlyFlag, ReadLeaves, GivenBack}
+use Rattle.drive.specs.RestoringClaims.{withoutLocks, ReadAlike, readNumber, onlyFlag, ReadLeaves, OnlyDue, GivenBack}
 use Rattle.drive.specs.Claims.{block}
 use Rattle.drive.proofs.Checks.{first-stops, first-passes, front-done, last-is}
 use Rattle.drive.proofs.Effects.{refusal-changes, restored-own, read-effect}
@@ -168,6 +169,63 @@ read-leaves s n block =
           (λ f. ap (λ (x : Nexus). x .marks .registered) (only .others m f));
     }
 
+-- ---- what is given
+
+-- two decisions with different values differ
+apart : {C : Type 0} (x y : ReadDecision) → eqb (readValueOf x) (readValueOf y) ≡ false → x ≡ y → C
+apart x y f e = clash (eq-eqb _ _ (ap readValueOf e)) f
+
+module _ (set : Set) (block : Block) where
+  -- each decision where it is due
+  none-due : OnlyDue set block Withheld
+  none-due = record { asPlain = apart Withheld Plain refl; asRaw = apart Withheld Raw refl; asDecrypted = apart Withheld Decrypted refl }
+
+  plain-due : eqb (block .kind) plainKind ≡ true → OnlyDue set block Plain
+  plain-due t = record { asPlain = λ e. eqb-true (block .kind) plainKind t; asRaw = apart Plain Raw refl; asDecrypted = apart Plain Decrypted refl }
+
+  -- a kind that isn't plain, and isn't above 2
+  raw-due : set .fields .decryption ≡ raw → eqb (block .kind) plainKind ≡ false → leb (block .kind) otherKind ≡ true → OnlyDue set block Raw
+  raw-due m p k =
+      let some = eqb-false (block .kind) plainKind p in
+      record { asPlain = apart Raw Plain refl; asRaw = λ e. (m, (omega (arith, some), leb-true _ _ k)); asDecrypted = apart Raw Decrypted refl }
+
+  decrypted-due : raw < set .fields .decryption → block .kind ≡ encryptedKind → hasKey set (block .key) ≡ true → OnlyDue set block Decrypted
+  decrypted-due m k h = record { asPlain = apart Decrypted Plain refl; asRaw = apart Decrypted Raw refl; asDecrypted = λ e. (m, (k, h)) }
+
+  -- by the definition's own tests
+  restored-due : OnlyDue set block (restored set block .decision)
+  unfolding underMode
+  restored-due =
+      let P : Ruling → Type 0 = λ r. OnlyDue set block (r .decision) in
+      let mode = set .fields .decryption in
+      let isPlain = eqb (block .kind) plainKind in
+      if-elim P (notKnown set block)
+      (λ t. none-due)
+      (λ known.
+      let low = not-false _ (or-left-false _ _ known) in
+      let had = not-false _ (or-right-false (not (leb (block .kind) otherKind)) _ known) in
+      if-elim P (eqb mode disable)
+      (λ d. if-elim P isPlain plain-due (λ f. none-due))
+      (λ d. if-elim P (eqb mode raw)
+      (λ r. if-elim P isPlain plain-due (λ f. raw-due (eqb-true mode raw r) f low))
+      (λ r. if-elim P isPlain
+      (λ p. if-elim P (eqb mode decrypt) (λ t. none-due) (λ f. plain-due p))
+      (λ p. if-elim P (eqb (block .kind) encryptedKind)
+      (λ k. if-elim P (eqb (block .key) noKey)
+      (λ none. none-due)
+      (λ some.
+      let above : raw < mode = omega (arith, eqb-false mode disable d, eqb-false mode raw r) in
+      decrypted-due above (eqb-true (block .kind) encryptedKind k) (or-other (eqb (block .key) noKey) _ had some)))
+      (λ k. none-due)))))
+
+-- Whatever is read, by whom and from whatever record: plain is given of a plain block alone, raw under RAW alone and of an encrypted one,
+-- decrypted under DECRYPT or MIXED alone, of a block of kind 1 that a key of the set in use opened.
+pub given-only : (s : State) (n : ℕ) (block : Block) → OnlyDue (selectedSet s n) block (readDecision s n block (answer s (read n block)))
+given-only s n block =
+    if-elim (OnlyDue (selectedSet s n) block) (isDone (answer s (read n block)))
+    (λ t. restored-due (selectedSet s n) block)
+    (λ f. none-due (selectedSet s n) block)
+
 -- ---- what was written is read
 
 -- under a set that decrypts, a block that its main key opened is given decrypted
@@ -187,14 +245,14 @@ pub given-back : (s : State) (n : ℕ) (supported : Bool) → isDone (answer s (
 unfolding answer checks
 given-back s n supported w h =
     let front = check1 s ∷ heardOf s n in
-    let verdict = main-opens (selectedSet s n) h in
+    let ruling = main-opens (selectedSet s n) h in
     let own = permitted (nexusAt s n) (selectedSet s n) supported in
     let a = restored (selectedSet s n) (block encryptedKind 0) .answer in
     let read-done : answer s (read n (block encryptedKind 0)) ≡ Done =
-    first-passes front (a ∷ []) (front-done front own w) ∙ last-is a ∙ ap (λ (v : Verdict). v .answer) verdict in
+    first-passes front (a ∷ []) (front-done front own w) ∙ last-is a ∙ ap (λ (v : Ruling). v .answer) ruling in
     record {
       done = read-done;
-      decrypted = ap (readDecision s n (block encryptedKind 0)) read-done ∙ ap (λ (v : Verdict). v .decision) verdict;
+      decrypted = ap (readDecision s n (block encryptedKind 0)) read-done ∙ ap (λ (v : Ruling). v .decision) ruling;
       placed = ap (decidedPlace s n) (read-done ∙ sym (done-is (answer s (write n supported)) w));
     }
 

@@ -23,7 +23,7 @@ use Rattle.drive.specs.Effects.{effectBy}
 use Rattle.drive.specs.After.{actionsOf, changedBy, carriedOut}
 use Rattle.drive.specs.Claims.{modesPage, unlocked, keyless, sends, block, since, sameRecord, Told, told, done, Claim, makes, leaves, decides, reads, holds, every}
 use Rattle.drive.proofs.Table.{p2, p5, p7, shared, p8, p9, strangeOwner, bothFlags}
-use Rattle.drive.specs.RestoringClaims.{Kind, kindRow, Holding, holding, noKeys, mainKey, oneMore, fourMore, agrees}
+use Rattle.drive.specs.RestoringClaims.{Kind, kindRow, Holding, holding, agrees}
 
 -- each kind, with a key that the set has and with none: 0 plain, 1 raw, 2 decrypted, or the number of a refusal
 
@@ -43,31 +43,37 @@ underDecrypt = kindRow 0 16 16 ∷ kindRow 1 2 17 ∷ kindRow 2 15 15 ∷ kindRo
 abbrev underMixed : List Kind
 underMixed = kindRow 0 0 0 ∷ kindRow 1 2 17 ∷ kindRow 2 15 15 ∷ kindRow 3 14 14 ∷ kindRow 255 14 14 ∷ []
 
--- a set that decrypts nothing has a main key under ENCRYPT alone, whatever its count
-abbrev rarelyKeyed : List Holding
-rarelyKeyed =
-    holding 0 0 noKeys ∷ holding 1 0 noKeys ∷ holding 0 1 noKeys ∷ holding 1 4 noKeys
-    ∷ holding 2 0 mainKey ∷ holding 2 1 oneMore ∷ holding 2 4 fourMore ∷ []
+-- sets of an encryption mode, with 0 to 4 supplemental keys: no key is theirs
+abbrev withoutKeys : ℕ → List Holding
+withoutKeys encryption =
+    holding encryption 0 0 ∷ holding encryption 1 0 ∷ holding encryption 2 0 ∷ holding encryption 3 0 ∷ holding encryption 4 0 ∷ []
 
--- one that decrypts has one always
-abbrev keyed : List Holding
-keyed =
-    holding 0 0 mainKey ∷ holding 0 1 oneMore ∷ holding 0 4 fourMore ∷ holding 1 0 mainKey ∷ holding 1 1 oneMore ∷ holding 1 4 fourMore
-    ∷ holding 2 0 mainKey ∷ holding 2 1 oneMore ∷ holding 2 4 fourMore ∷ []
+-- the main key is, and each supplemental key
+abbrev withKeys : ℕ → List Holding
+withKeys encryption =
+    holding encryption 0 1 ∷ holding encryption 1 2 ∷ holding encryption 2 3 ∷ holding encryption 3 4 ∷ holding encryption 4 5 ∷ []
 
-pub disable-decided : T (agrees disable rarelyKeyed underDisable)
+-- a set that decrypts nothing holds a main key under ENCRYPT alone
+abbrev undecrypting : List Holding
+undecrypting = withoutKeys 0 ++ withoutKeys 1 ++ withKeys 2
+
+-- one that decrypts always
+abbrev decrypting : List Holding
+decrypting = withKeys 0 ++ withKeys 1 ++ withKeys 2
+
+pub disable-decided : T (agrees disable undecrypting underDisable)
 unfolding agrees answer checks selected ownedPlace setGood nexusGood ownerIsLocal wellFormed runFrom powerOn underMode
 disable-decided = tt
 
-pub raw-decided : T (agrees raw rarelyKeyed underRaw)
+pub raw-decided : T (agrees raw undecrypting underRaw)
 unfolding agrees answer checks selected ownedPlace setGood nexusGood ownerIsLocal wellFormed runFrom powerOn underMode
 raw-decided = tt
 
-pub decrypt-decided : T (agrees decrypt keyed underDecrypt)
+pub decrypt-decided : T (agrees decrypt decrypting underDecrypt)
 unfolding agrees answer checks selected ownedPlace setGood nexusGood ownerIsLocal wellFormed runFrom powerOn underMode
 decrypt-decided = tt
 
-pub mixed-decided : T (agrees mixed keyed underMixed)
+pub mixed-decided : T (agrees mixed decrypting underMixed)
 unfolding agrees answer checks selected ownedPlace setGood nexusGood ownerIsLocal wellFormed runFrom powerOn underMode
 mixed-decided = tt
 
@@ -124,6 +130,7 @@ byKey =
 abbrev byNexus : List Claim
 byNexus =
     reads (since (shared ∷ [])) 3 (block 1 0) done 2 0
+    ∷ reads (since (shared ∷ [])) 6 (block 1 0) done 2 0  -- the ALL nexus itself
     ∷ reads (since (p2 ++ shared ∷ [])) 3 (block 1 0) done 2 1
     ∷ reads (since p5) 4 (block 1 0) done 2 1  -- nexus 0 was evicted: it is told, then reads under the default set
     ∷ reads (since p5) 0 (block 1 0) (told 3 6 0x2A 0x11) 255 0

@@ -1,28 +1,31 @@
 -- What is claimed of reads (proofs/Restoring, proofs/RestoringTable).
-use Prim.Native.Nat.{ℕ}
+use Prim.Native.Nat.{ℕ, _-_, _<_, _≤_}
 use mathlib.Core.Path.{_≡_}
 use mathlib.Core.Bool.{Bool, true, false, _&&_, _||_}
-use mathlib.Core.List.{List, [], _∷_, map}
+use mathlib.Core.List.{List, [], _∷_, _++_, map}
 use lib.Dec.{leb}
+use lib.ListN.{replicate}
 use Rattle.arrays.specs.Base.{if_then_else_}
 use Rattle.kad.specs.Kad.{noKads}
 use Rattle.answer.specs.Answers.{numberOf, changeOf, isDone}
 use Rattle.answer.specs.declared.Answer.the-variants.{Done}
 use Rattle.answer.specs.declared.Change.{Change}
 use Rattle.answer.specs.declared.Change.the-variants.{Unchanged, AnotherCleared, VendorCleared, Registered}
-use Rattle.parameters.specs.Codes.{allScope}
+use Rattle.parameters.specs.Codes.{allScope, raw}
 use Rattle.parameters.specs.Fields.{noFields, noSupplemental}
 use Rattle.parameters.specs.declared.Fields.{Fields}
 use Rattle.device.specs.Record.{State, nexusAt, established}
+use Rattle.device.specs.declared.Set.{Set}
 use Rattle.device.specs.Updates.{withLock, withSaved, withScope, withSupplemental, atPlace, atNexus, mapped}
 use Rattle.marks.specs.declared.Actor.the-variants.{Acting}
 use Rattle.drive.specs.declared.Block.{Block}
-use Rattle.drive.specs.declared.ReadDecision.the-variants.{Decrypted}
+use Rattle.drive.specs.declared.ReadDecision.{ReadDecision}
+use Rattle.drive.specs.declared.ReadDecision.the-variants.{Plain, Raw, Decrypted}
 use Rattle.drive.specs.Calls.{write, read}
 use Rattle.drive.specs.Checks.{answer}
 use Rattle.drive.specs.After.{actions, after}
 use Rattle.drive.specs.Outcomes.{readDecision, decidedPlace}
-use Rattle.drive.specs.Restoring.{readValueOf}
+use Rattle.drive.specs.Restoring.{plainKind, encryptedKind, otherKind, hasKey, readValueOf}
 use Rattle.drive.specs.Refusals.{OnlyMarks}
 use Rattle.drive.specs.Claims.{block, since, sameList}
 
@@ -58,6 +61,15 @@ pub record ReadLeaves (s : State) (n : ℕ) (block : Block) : Type 0 where
   pub only : OnlyMarks (Acting n) (changeOf (answer s (read n block))) s (after s (read n block))
   pub flag : onlyFlag (changeOf (answer s (read n block))) ≡ true
   pub registered : (m : ℕ) → nexusAt (after s (read n block)) m .marks .registered ≡ nexusAt s m .marks .registered
+
+-- ---- what is given
+
+-- plain is given of a plain block alone; raw under RAW alone, of one that is encrypted; decrypted under DECRYPT or MIXED alone, of one of
+-- kind 1 that a key of the set opened
+pub record OnlyDue (set : Set) (block : Block) (decision : ReadDecision) : Type 0 where
+  pub asPlain : decision ≡ Plain → block .kind ≡ plainKind
+  pub asRaw : decision ≡ Raw → (set .fields .decryption ≡ raw) × ((plainKind < block .kind) × (block .kind ≤ otherKind))
+  pub asDecrypted : decision ≡ Decrypted → (raw < set .fields .decryption) × ((block .kind ≡ encryptedKind) × (hasKey set (block .key) ≡ true))
 
 -- ---- what was written is read
 
@@ -105,44 +117,20 @@ pub record Kind : Type 0 where
 abbrev pub kindRow : ℕ → ℕ → ℕ → Kind
 kindRow kind opened unopened = record { kind = kind; opened = opened; unopened = unopened }
 
--- which of keys 0, 1 and 4 a set has
-pub record Keys : Type 0 where
-  pub main : Bool
-  pub first : Bool
-  pub fourth : Bool
-
-abbrev pub noKeys : Keys
-noKeys = record { main = false; first = false; fourth = false }
-
--- a main key, and 0, 1 or 4 supplemental keys
-abbrev pub mainKey : Keys
-mainKey = record { main = true; first = false; fourth = false }
-
-abbrev pub oneMore : Keys
-oneMore = record { main = true; first = true; fourth = false }
-
-abbrev pub fourMore : Keys
-fourMore = record { main = true; first = true; fourth = true }
-
--- with a key that the set has or hasn't
-abbrev openedBy : Kind → Bool → ℕ
-openedBy row had = if had then row .opened else 14
-
--- keys 0, 1, 4, 5, 254 and 255 in a row
-abbrev pub expected : Keys → Kind → List ℕ
-expected keys row =
-    openedBy row (keys .main) ∷ openedBy row (keys .first) ∷ openedBy row (keys .fourth) ∷ 14 ∷ 14 ∷ row .unopened ∷ []
+-- keys 0 to 5, 254 and 255 in a row, where the set has so many of them, from the main key on
+abbrev pub expected : ℕ → Kind → List ℕ
+expected keys row = replicate keys (row .opened) ++ replicate (7 - keys) 14 ++ row .unopened ∷ []
 
 abbrev pub found : State → ℕ → List ℕ
-found s kind = map (cell s kind) (0 ∷ 1 ∷ 4 ∷ 5 ∷ 254 ∷ 255 ∷ [])
+found s kind = map (cell s kind) (0 ∷ 1 ∷ 2 ∷ 3 ∷ 4 ∷ 5 ∷ 254 ∷ 255 ∷ [])
 
--- a set with these modes and so many supplemental keys has those keys
+-- a set with this encryption mode and so many supplemental keys has so many keys
 pub record Holding : Type 0 where
   pub encryption : ℕ
   pub count : ℕ
-  pub keys : Keys
+  pub keys : ℕ
 
-abbrev pub holding : ℕ → ℕ → Keys → Holding
+abbrev pub holding : ℕ → ℕ → ℕ → Holding
 holding encryption count keys = record { encryption = encryption; count = count; keys = keys }
 
 -- each kind under a decryption mode, with each set

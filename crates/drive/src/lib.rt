@@ -41,7 +41,7 @@ pub enum ReadDecision {
 }
 
 // How a read is answered, and what it gives: Withheld where it is refused.
-pub struct Verdict {
+pub struct Ruling {
     pub answer: Answer,
     pub decision: ReadDecision,
 }

@@ -297,12 +297,12 @@ pub fn read_known(d: Device, n: u8, block: Block) -> ReadOutcome
     }
     let sets = d.sets;
     let place = device_16::place_of(nexus, n as usize, sets);
-    let verdict = drive_code::restore(sets[place], block);
-    let answer = verdict.answer;
+    let ruling = drive_code::restore(sets[place], block);
+    let answer = ruling.answer;
     if !answer_code::is_done(answer) {
         return refuse_read(d, n, answer);
     }
-    let decision = verdict.decision;
+    let decision = ruling.decision;
     ReadOutcome {
         device: d,
         answer,

@@ -11,7 +11,7 @@ use drive::NO_KEY;
 use drive::OTHER_KIND;
 use drive::PLAIN_KIND;
 use drive::ReadDecision;
-use drive::Verdict;
+use drive::Ruling;
 use marks::Actor;
 use parameters::DECRYPT;
 use parameters::DISABLE;
@@ -131,27 +131,27 @@ pub fn block_of(argument: u16) -> Block
 }
 
 // A read that passes.
-fn pass(decision: ReadDecision) -> Verdict
+fn pass(decision: ReadDecision) -> Ruling
     ensures { λ r. ⌜ r ≡ passes decision ⌝ }
 {
-    Verdict {
+    Ruling {
         answer: Answer::Done,
         decision,
     }
 }
 
 // A read that is stopped.
-fn stop(answer: Answer) -> Verdict
+fn stop(answer: Answer) -> Ruling
     ensures { λ r. ⌜ r ≡ stopped answer ⌝ }
 {
-    Verdict {
+    Ruling {
         answer,
         decision: ReadDecision::Withheld,
     }
 }
 
-// "Under DISABLE plain passes and others get 15."
-fn under_disable(kind: u8) -> Verdict
+// "Under DISABLE plain passes and others get 15 (7/74/01)."
+fn under_disable(kind: u8) -> Ruling
     ensures { λ r. ⌜ r ≡ underDisable kind ⌝ }
 {
     if kind == PLAIN_KIND {
@@ -161,7 +161,7 @@ fn under_disable(kind: u8) -> Verdict
 }
 
 // "RAW passes all, kinds 1 and 2 as raw."
-fn under_raw(kind: u8) -> Verdict
+fn under_raw(kind: u8) -> Ruling
     ensures { λ r. ⌜ r ≡ underRaw kind ⌝ }
 {
     if kind == PLAIN_KIND {
@@ -170,8 +170,8 @@ fn under_raw(kind: u8) -> Verdict
     pass(ReadDecision::Raw)
 }
 
-// "DECRYPT gives 16 for plain; MIXED passes it."
-fn plain_under(mode: u8) -> Verdict
+// "DECRYPT gives 16 (7/74/02) for plain; MIXED passes it."
+fn plain_under(mode: u8) -> Ruling
     ensures { λ r. ⌜ r ≡ plainUnder mode ⌝ }
 {
     if mode == DECRYPT {
@@ -180,8 +180,8 @@ fn plain_under(mode: u8) -> Verdict
     pass(ReadDecision::Plain)
 }
 
-// "In both, kind 1 is decrypted if a key opened it, else 17; kind 2 gives 15."
-fn encrypted_under(block: Block) -> Verdict
+// "In both, kind 1 is decrypted if a key opened it, else 17 (7/74/03); kind 2 gives 15."
+fn encrypted_under(block: Block) -> Ruling
     ensures { λ r. ⌜ r ≡ encryptedUnder block ⌝ }
 {
     if block.kind != ENCRYPTED_KIND {
@@ -194,7 +194,7 @@ fn encrypted_under(block: Block) -> Verdict
 }
 
 // A block read, by decryption mode.
-fn under_mode(mode: u8, block: Block) -> Verdict
+fn under_mode(mode: u8, block: Block) -> Ruling
     ensures { λ r. ⌜ r ≡ underMode mode block ⌝ }
 {
     if mode == DISABLE {
@@ -219,7 +219,7 @@ fn not_known(set: Set, block: Block) -> bool
 }
 
 // Checks 14 to 17, of a block read under a set, and what becomes of it.
-pub fn restore(set: Set, block: Block) -> Verdict
+pub fn restore(set: Set, block: Block) -> Ruling
     ensures { λ r. ⌜ r ≡ restored set block ⌝ }
 {
     if not_known(set, block) {

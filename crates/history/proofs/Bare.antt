@@ -21,7 +21,8 @@ use Rattle.drive.specs.Calls.{Call}
 use Rattle.drive.specs.Effects.{Effect, nothing, marks, takes, clears, releasing, restarts, effect}
 use Rattle.drive.specs.After.{actionsOf, changedBy, actorOf, carriedOut, byNumber, actions, after}
 use Rattle.drive.proofs.Effects.{isRestart}
-use Rattle.drive.proofs.Keeps.{Keeps, good-kept}
+use Rattle.drive.proofs.Seen.{good-seen}
+use Rattle.drive.proofs.Keeps.{Keeps}
 use Rattle.history.specs.History.{hits, did, Bare, bareSet, bareNexus, bare, fullSet, fullNexus, full, byAction, reads, placeNumber, Low}
 use Rattle.history.proofs.Left.{changed-same}
 use Rattle.history.proofs.Numbers.{differs-hits}
@@ -44,22 +45,19 @@ unsaved x = fullNexus (bareNexus x)
 -- no effect reads a number
 keeps : Keeps unnumbered unsaved
 keeps = record {
-  owner = λ x. refl;
-  scope = λ x. refl;
+  seen = record { owner = λ x. refl; scope = λ x. refl; nexusScope = λ x. refl; marks = λ x. refl };
   decryption = λ x. refl;
   ckod = λ x. refl;
   ckorp = λ x. refl;
   ckorl = λ x. refl;
   count = λ x. refl;
-  nexusScope = λ x. refl;
   lock = λ x. refl;
-  marks = λ x. refl;
 }
 
 -- nor does being well formed depend on one
 formed : (s : State) → wellFormed (mapped uncounted unnumbered unsaved s) ≡ wellFormed s
 unfolding setGood
-formed s = good-kept unnumbered unsaved keeps uncounted s (λ nexuses place x. refl)
+formed s = good-seen unnumbered unsaved (keeps .seen) uncounted s (λ nexuses place x. refl)
 
 -- and what an effect changes it changes alike
 moves : Moves uncounted unnumbered unsaved

@@ -29,6 +29,7 @@ use Rattle.places.specs.Actions.{Action, drawn, freed, act, acts, releases, rel
 use Rattle.drive.specs.Calls.{Call}
 use Rattle.drive.specs.Effects.{Effect, nothing, marks, takes, clears, releasing, restarts, effect}
 use Rattle.drive.specs.After.{actionsOf, changedBy, actorOf, Telling, carriedOut}
+use Rattle.drive.proofs.Seen.{selected-seen}
 use Rattle.drive.proofs.Keeps.{Keeps}
 use Rattle.drive.proofs.Keeps as keeps
 
@@ -62,7 +63,7 @@ module _ (c : ℕ → ℕ) (f : Set → Set) (g : Nexus → Nexus) (k : Keeps f 
 
   -- the place that a nexus uses
   pub same-selected : (n : ℕ) (s t : State) → Alike s t → selected s n ≡ selected t n
-  same-selected n s t = through (λ x. selected x n) s t (keeps.selected-kept f g k c s n) (keeps.selected-kept f g k c t n)
+  same-selected n s t = through (λ x. selected x n) s t (selected-seen f g (k .seen) c s n) (selected-seen f g (k .seen) c t n)
 
   -- what is made of a nexus
   same-nexus : (n : ℕ) (s t : State) → Alike s t → g (nexusAt s n) ≡ g (nexusAt t n)
@@ -74,7 +75,7 @@ module _ (c : ℕ → ℕ) (f : Set → Set) (g : Nexus → Nexus) (k : Keeps f 
 
   -- and a nexus's marks
   same-marks : (x y : Nexus) → g x ≡ g y → x .marks ≡ y .marks
-  same-marks x y e = sym (k .marks x) ∙ ap (λ z. z .marks) e ∙ k .marks y
+  same-marks x y e = sym (k .seen .marks x) ∙ ap (λ z. z .marks) e ∙ k .seen .marks y
 
   -- where one of two is picked
   if-alike : (b : Bool) (s t u v : State) → Alike s u → Alike t v → Alike (if b then s else t) (if b then u else v)
@@ -188,7 +189,7 @@ module _ (c : ℕ → ℕ) (f : Set → Set) (g : Nexus → Nexus) (k : Keeps f 
       tells i = ap₂ (λ (r : Marks) w. r .registered && not (isActor actor i) && w) (same-marks (nexusAt s i) (nexusAt t i) (same-nexus i s t a)) (d i)
 
       remark : (p : ℕ → Bool) (s : State) (i : ℕ) (x : Nexus) → g (remarked (alerted actor (told p s actor i)) x) ≡ remarked (alerted actor (told p s actor i)) (g x)
-      remark p s i x = m .remarks _ x ∙ ap (λ r. withMarks (alerted actor (told p s actor i) r) (g x)) (sym (k .marks x))
+      remark p s i x = m .remarks _ x ∙ ap (λ r. withMarks (alerted actor (told p s actor i) r) (g x)) (sym (k .seen .marks x))
 
   -- a reset
   cleared-alike : (s t : State) → Alike s t → Alike (cleared s) (cleared t)

@@ -51,14 +51,14 @@ selects c =
     let a = c .before .before .before .before .before .before .before .args in
     found (state (a .d)) (a .n) _ _ (c .before .before .before .before .before .before .nexus-at .ensures) (c .place-of .ensures .0)
 
--- the verdict under the set that the code found
-verdict-is : (c : tie.After-restore) → let a = c .before .before .before .before .before .before .before .before .before .args in
+-- the ruling under the set that the code found
+ruling-is : (c : tie.After-restore) → let a = c .before .before .before .before .before .before .before .before .before .args in
     c .restore .result ≡ restored (selectedSet (state (a .d)) (a .n)) (a .block)
-verdict-is c =
+ruling-is c =
     let a = c .before .before .before .before .before .before .before .before .before .args in
     c .restore .ensures ∙ ap (λ p. restored (setAt (state (a .d)) p) (a .block)) (selects (c .before .before))
 
--- where they find none, the verdict's is
+-- where they find none, the ruling's is
 answered : (c : tie.After-restore) → c .restore .result .answer ≡ given (c .before .before .before .before .before .before .before .before .before)
 unfolding checks
 answered c =
@@ -66,7 +66,7 @@ answered c =
     let s = h .before .before .before in
     known-passes (state (s .args .d)) (read (s .args .n) (s .args .block)) (front s) (rest s) refl _ _ (heard-is h)
     (done-told (c .before .before .before .before .before .is-done .ensures) (c .before .before .before .before .if1 .left))
-    (ap (λ v. v .answer) (verdict-is c) ∙ sym (last-is _))
+    (ap (λ v. v .answer) (ruling-is c) ∙ sym (last-is _))
 
 pub read-known-spec : {M : Type 1} → statement M
 read-known-spec =
@@ -84,12 +84,12 @@ read-known-spec =
     (λ c κs. search needs)
     (λ c κs. search needs)
     (λ c κs. search needs)
-    (λ c. let verdict = c .before .before .before in
-    let a = verdict .before .before .before .before .before .before .before .before .before .args in
-    c .refuse-read2 .ensures ∙ read-refused (state (a .d)) (a .n) (a .block) _ (fault-told (c .before .before .is-done2 .ensures) (c .before .if2 .taken)) ∙ ap (readOutcomeBy (state (a .d)) (a .n) (a .block)) (answered verdict))
-    (λ c. let verdict = c .before .before in
-    let a = verdict .before .before .before .before .before .before .before .before .before .args in
-    let v = verdict-is verdict in
-    let p = selects (verdict .before .before) in
-    (λ i. record { device = device (state (a .d)); answer = verdict .restore .result .answer; sense = senseOf Done; decision = v i .decision; place = p i })
-    ∙ read-done (state (a .d)) (a .n) (a .block) _ (done-told (c .before .is-done2 .ensures) (c .if2 .left)) ∙ ap (readOutcomeBy (state (a .d)) (a .n) (a .block)) (answered verdict)))
+    (λ c. let ruling = c .before .before .before in
+    let a = ruling .before .before .before .before .before .before .before .before .before .args in
+    c .refuse-read2 .ensures ∙ read-refused (state (a .d)) (a .n) (a .block) _ (fault-told (c .before .before .is-done2 .ensures) (c .before .if2 .taken)) ∙ ap (readOutcomeBy (state (a .d)) (a .n) (a .block)) (answered ruling))
+    (λ c. let ruling = c .before .before in
+    let a = ruling .before .before .before .before .before .before .before .before .before .args in
+    let v = ruling-is ruling in
+    let p = selects (ruling .before .before) in
+    (λ i. record { device = device (state (a .d)); answer = ruling .restore .result .answer; sense = senseOf Done; decision = v i .decision; place = p i })
+    ∙ read-done (state (a .d)) (a .n) (a .block) _ (done-told (c .before .is-done2 .ensures) (c .if2 .left)) ∙ ap (readOutcomeBy (state (a .d)) (a .n) (a .block)) (answered ruling)))
