@@ -17,8 +17,7 @@ use Rattle.page.specs.declared.Checked.{Checked}
 use Rattle.parameters.specs.Codes.{localScope}
 use Rattle.device.specs.Record.{State, nexusAt}
 use Rattle.device.specs.Updates.{mapped}
-use Rattle.device.specs.Selecting.{selected}
-use Rattle.device.specs.WellFormed.{setGood, wellFormed}
+use Rattle.device.specs.WellFormed.{wellFormed}
 use Rattle.device.specs.declared.Set.{Set}
 use Rattle.device.specs.declared.Nexus.{Nexus}
 use Rattle.device.specs.declared.Found.the-variants.{At, Nowhere}
@@ -32,7 +31,7 @@ use Rattle.status.specs.Pages.{isInPage, isOutPage}
 use Rattle.drive.specs.Checks.{answerIf, firstOf, check1, check5, check6, eventCheck, heardOf, pageChecked, checks, answer}
 use Rattle.drive.specs.Effects.{Effect, nothing, marks, takes, clears, releasing, restarts, refusal, effectBy, effect}
 use Rattle.drive.specs.After.{actionsOf}
-use Rattle.drive.proofs.Seen.{Seen, owns-kept, find-kept, nexus-seen, owned-seen, selected-seen, used-seen, nexuses-kept, places-kept, good-seen, heard-kept}
+use Rattle.drive.proofs.Seen.{Seen, owns-kept, find-kept, nexus-seen, owned-seen, used-seen, nexuses-kept, places-kept, heard-kept}
 use Rattle.drive.proofs.Effects.{write-effect, read-effect}
 
 -- what two maps keep besides: all that the rules of a page and of an event read of a set and of a nexus

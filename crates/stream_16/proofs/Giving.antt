@@ -1,21 +1,20 @@
 -- A reply as the code gives it: its head as a value, its data stored in the buffer.
 -- Assumes nothing.
 use Prim.Native.Nat.{ℕ, _+_, _%_, _<_, _≤_}
-use mathlib.Core.Path.{_≡_, refl, sym, ap, _∙_}
+use mathlib.Core.Path.{_≡_, refl, sym, ap, subst, _∙_}
 use mathlib.Core.Bool.{Bool, true, false}
 use mathlib.Core.List.{List, [], _∷_, _++_}
 use native.Mathlib.Omega.{arith}
 use lib.ListN.{length, take, drop, length-append, length-drop}
 use lib.Seq.{sets, length-take-le}
-use Rattle.arrays.proofs.Base.{cases, if-true, if-false}
+use Rattle.arrays.proofs.Base.{cases, if-elim, if-true, if-false}
 use Rattle.wire.specs.Numbers.{two}
 use Rattle.wire.proofs.Stores.{length-shown}
 use Rattle.answer.specs.Answers.{isDone}
 use Rattle.answer.specs.declared.Answer.{Answer}
 use Rattle.device.specs.Record.{State}
-use Rattle.device.specs.Selecting.{selected}
 use Rattle.device.proofs.Selecting.{selected-within}
-use Rattle.device_16.specs.Model.{device}
+use Rattle.device_16.specs.Model.{state, device}
 use Rattle.drive.specs.declared.Command.{Command}
 use Rattle.drive.specs.declared.Block.{Block}
 use Rattle.drive.specs.Restoring.{readValueOf}
@@ -28,7 +27,7 @@ use Rattle.drive_16.specs.declared.InOutcome.{InOutcome}
 use Rattle.drive_16.specs.declared.WriteOutcome.{WriteOutcome}
 use Rattle.drive_16.specs.declared.ReadOutcome.{ReadOutcome}
 use Rattle.command.specs.Requests.{lentMost}
-use Rattle.command.specs.Replies.{replyHeadSize, Replied, answered, whenDone, inBytes, inReply, writeBytes, writeReply, readBytes, readReply}
+use Rattle.command.specs.Replies.{replyHeadSize, Replied, answered, whenDone, inBytes, inReply, writeReply, readReply}
 use Rattle.wire.proofs.Numbers.{two-lower}
 use Rattle.wire.proofs.Stores.{part-stored}
 use Rattle.stream_16.specs.Stream.{lentFrom, lentPart, replyMost, replyOf, replyWith, Given}
@@ -37,6 +36,10 @@ use Rattle.stream_16.specs.declared.Reply.{Reply}
 -- a reply without data leaves the buffer as it was
 pub kept : (x : Replied) (buffer : List ℕ) (r : Reply) → x .bytes ≡ [] → r ≡ replyOf x → Given x buffer r buffer
 kept x buffer r e p = record { tells = p; holds = sym (ap (sets buffer replyHeadSize) e); fits = omega (arith, ap length e) }
+
+-- what is given as one reply is given as another that equals it
+pub given-as : {x y : Replied} {buffer after : List ℕ} {r : Reply} → x ≡ y → Given x buffer r after → Given y buffer r after
+given-as {x} {y} {buffer} {after} {r} e g = subst (λ (z : Replied). Given z buffer r after) e g
 
 -- SECURITY PROTOCOL IN
 module _ (s : State) (command : Command) where
@@ -91,54 +94,21 @@ module _ (a : Answer) (bytes : List ℕ) (s : State) where
         fits = omega (arith, size, ap length given);
       }
 
--- the place of a set in use is a byte
-place-byte : (s : State) (n : ℕ) (a : Answer) → 0 < length (s .sets) → length (s .sets) ≤ 256 → isDone a ≡ true → decidedPlace s n a % 256 ≡ decidedPlace s n a
-place-byte s n a some few d =
-    let place : decidedPlace s n a ≡ selected s n = if-true _ _ _ d in
-    omega (arith, place, selected-within s n some)
+-- the place that is told is a byte
+place-byte : (s : State) (n : ℕ) (a : Answer) → 0 < length (s .sets) → length (s .sets) ≤ 256 → decidedPlace s n a % 256 ≡ decidedPlace s n a
+place-byte s n a some few =
+    if-elim (λ (p : ℕ). p % 256 ≡ p) (isDone a) (λ t. omega (arith, selected-within s n some)) (λ f. refl)
 
--- the write decision
-module _ (s : State) (n : ℕ) (supported : Bool) {o : WriteOutcome} (p : o ≡ writeOutcome s n supported) where
-  pub write-stopped : (b : List ℕ) (r : Reply) → isDone (o .answer) ≡ false → r ≡ replyWith (o .device) (o .answer) 0
-      → Given (writeReply s n supported) b r b
-  unfolding writeReply writeOutcomeBy
-  write-stopped b r f u =
-      let a = answer s (write n supported) in
-      stopped a (writeBytes s n a) (after s (write n supported)) b r (sym (ap (λ (x : WriteOutcome). isDone (x .answer)) p) ∙ f)
-      (u ∙ ap (λ (x : WriteOutcome). replyWith (x .device) (x .answer) 0) p)
+-- the write decision: value, place and index
+pub write-given : (s : State) (n : ℕ) (supported : Bool) {o : WriteOutcome} {value : ℕ} → 0 < length (s .sets) → length (s .sets) ≤ 256
+    → o ≡ writeOutcome s n supported → value ≡ valueOf (o .decision)
+    → answered (o .answer) (whenDone (o .answer) (value ∷ o .place % 256 ∷ o .index ∷ [])) (state (o .device)) ≡ writeReply s n supported
+unfolding writeReply writeOutcomeBy
+write-given s n supported some few p v = rw (v, p, place-byte s n (answer s (write n supported)) some few) refl
 
-  -- value, place and index
-  pub write-given : (b : List ℕ) {value : ℕ} {end : List ℕ} {r : Reply} → 0 < length (s .sets) → length (s .sets) ≤ 256 → isDone (o .answer) ≡ true
-      → value ≡ valueOf (o .decision) → end ≡ sets b replyHeadSize (value ∷ o .place % 256 ∷ o .index ∷ [])
-      → r ≡ replyWith (o .device) (o .answer) 3 → Given (writeReply s n supported) b r end
-  unfolding writeReply writeOutcomeBy
-  write-given b {value} {end} {r} some few d v t u =
-      let a = answer s (write n supported) in
-      let done : isDone a ≡ true = sym (ap (λ (x : WriteOutcome). isDone (x .answer)) p) ∙ d in
-      let low = place-byte s n a some few done in
-      let same : value ∷ o .place % 256 ∷ o .index ∷ [] ≡ writeBytes s n a = rw (v, p, low) refl in
-      stored a (writeBytes s n a) (after s (write n supported)) b 3 done refl (omega arith) (t ∙ ap (sets b replyHeadSize) same)
-      (u ∙ ap (λ (x : WriteOutcome). replyWith (x .device) (x .answer) 3) p)
-
--- the read decision
-module _ (s : State) (n : ℕ) (block : Block) {o : ReadOutcome} (p : o ≡ readOutcome s n block) where
-  pub read-stopped : (b : List ℕ) (r : Reply) → isDone (o .answer) ≡ false → r ≡ replyWith (o .device) (o .answer) 0
-      → Given (readReply s n block) b r b
-  unfolding readReply readOutcomeBy
-  read-stopped b r f u =
-      let a = answer s (read n block) in
-      stopped a (readBytes s n block a) (after s (read n block)) b r (sym (ap (λ (x : ReadOutcome). isDone (x .answer)) p) ∙ f)
-      (u ∙ ap (λ (x : ReadOutcome). replyWith (x .device) (x .answer) 0) p)
-
-  -- value and place
-  pub read-given : (b : List ℕ) {value : ℕ} {end : List ℕ} {r : Reply} → 0 < length (s .sets) → length (s .sets) ≤ 256 → isDone (o .answer) ≡ true
-      → value ≡ readValueOf (o .decision) → end ≡ sets b replyHeadSize (value ∷ o .place % 256 ∷ [])
-      → r ≡ replyWith (o .device) (o .answer) 2 → Given (readReply s n block) b r end
-  unfolding readReply readOutcomeBy
-  read-given b {value} {end} {r} some few d v t u =
-      let a = answer s (read n block) in
-      let done : isDone a ≡ true = sym (ap (λ (x : ReadOutcome). isDone (x .answer)) p) ∙ d in
-      let low = place-byte s n a some few done in
-      let same : value ∷ o .place % 256 ∷ [] ≡ readBytes s n block a = rw (v, p, low) refl in
-      stored a (readBytes s n block a) (after s (read n block)) b 2 done refl (omega arith) (t ∙ ap (sets b replyHeadSize) same)
-      (u ∙ ap (λ (x : ReadOutcome). replyWith (x .device) (x .answer) 2) p)
+-- the read decision: value and place
+pub read-given : (s : State) (n : ℕ) (block : Block) {o : ReadOutcome} {value : ℕ} → 0 < length (s .sets) → length (s .sets) ≤ 256
+    → o ≡ readOutcome s n block → value ≡ readValueOf (o .decision)
+    → answered (o .answer) (whenDone (o .answer) (value ∷ o .place % 256 ∷ [])) (state (o .device)) ≡ readReply s n block
+unfolding readReply readOutcomeBy
+read-given s n block some few p v = rw (v, p, place-byte s n (answer s (read n block)) some few) refl

@@ -3,7 +3,6 @@
 use Prim.Native.Nat.{ℕ, _+_, _≤_}
 use mathlib.Core.Path.{_≡_, refl, sym, ap, _∙_}
 use mathlib.Core.Bool.{Bool, true, false}
-use native.Mathlib.Omega.{arith}
 use mathlib.Core.List.{List, [], _++_}
 use lib.ListN.{length, length-append}
 use lib.Seq.{sets}
@@ -21,7 +20,7 @@ use Rattle.record.specs.Reading.{recordRead}
 use Rattle.record.specs.Good.{goodBytes, recordTaken}
 use Rattle.record_16.specs.Loading.{loaded}
 use Rattle.record_16.specs.declared.Loaded.{Loaded}
-use Rattle.command.specs.Replies.{replyHeadSize, answered, valuesHead, valuesBytes, statusReply, takeReply, giveReply}
+use Rattle.command.specs.Replies.{replyHeadSize, answered, whenDone, valuesHead, valuesBytes, statusReply, takeReply, giveReply}
 use Rattle.stream_16.specs.Stream.{replyMost, replyOf, replyWith, Given}
 use Rattle.stream_16.specs.declared.Reply.{Reply}
 use Rattle.stream_16.proofs.Giving.{stopped, stored}
@@ -75,8 +74,6 @@ unfolding takeReply
 taken-none s bytes = cases (goodBytes (length (s .nexuses)) (length (s .sets)) bytes) (λ t. rw t refl) (λ f. rw f refl)
 
 -- the record given
-pub record-given : (s : State) (b : List ℕ) (count : ℕ) {bytes end : List ℕ} {r : Reply} → bytes ≡ recordBytes s → length bytes ≡ count → replyHeadSize + count ≤ replyMost
-    → end ≡ sets b replyHeadSize bytes → r ≡ replyWith (device s) Done count → Given (giveReply s) b r end
+pub record-given : (s : State) {bytes : List ℕ} → bytes ≡ recordBytes s → answered Done (whenDone Done bytes) s ≡ giveReply s
 unfolding giveReply
-record-given s b count e size small t u =
-    record { tells = u ∙ ap (replyWith (device s) Done) (sym size ∙ ap length e); holds = t ∙ ap (sets b replyHeadSize) e; fits = omega (arith, size, ap length e) }
+record-given s e = ap (λ (l : List ℕ). answered Done l s) e

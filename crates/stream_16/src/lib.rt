@@ -16,8 +16,8 @@ ghost use Prim.Native.Nat.{_+_, _≤_};
 ghost use lib.ListN.{length};
 ghost use Rattle.device_16.specs.Model.{state};
 ghost use Rattle.command.specs.Requests.{lentMost, lentSize};
-ghost use Rattle.command.specs.Replies.{unknownReply, inReply, writeReply, readReply, statusReply, takeReply, giveReply, obeyed};
-ghost use Rattle.stream_16.specs.Stream.{lentFrom, lentPart, replyOf, replyWith, Given, served};
+ghost use Rattle.command.specs.Replies.{replyHeadSize, answered, whenDone, unknownReply, inReply, writeReply, readReply, statusReply, takeReply, giveReply, obeyed};
+ghost use Rattle.stream_16.specs.Stream.{lentFrom, lentPart, replyMost, replyOf, replyWith, Given, served};
 
 pub const HEAD_SIZE: usize = 6;
 
@@ -86,6 +86,18 @@ fn give_in(d: Device, command: Command, size: usize, buffer: &mut [u8]) -> Reply
     reply_with(after, answer, 2 + size)
 }
 
+// The reply with an answer whose data, where it is 0, are these bytes.
+fn give(d: Device, answer: Answer, bytes: &[u8], buffer: &mut [u8]) -> Reply
+    requires { ⌜ replyHeadSize + length (now bytes) ≤ replyMost ⌝ }
+    ensures { λ r. ⌜ Given (answered answer (whenDone answer (now (bytes .entry))) (state d)) (now (buffer .entry)) r (now (buffer .exit)) ⌝ }
+{
+    if !answer_code::is_done(answer) {
+        return reply_with(d, answer, 0);
+    }
+    wire_code::put(buffer, HEAD_SIZE, bytes);
+    reply_with(d, answer, bytes.len())
+}
+
 // The write decision.
 fn give_write(d: Device, n: u8, supported: bool, buffer: &mut [u8]) -> Reply
     ensures { λ r. ⌜ Given (writeReply (state d) n supported) (now (buffer .entry)) r (now (buffer .exit)) ⌝ }
@@ -94,16 +106,12 @@ fn give_write(d: Device, n: u8, supported: bool, buffer: &mut [u8]) -> Reply
     let answer = outcome.answer;
     let decision = outcome.decision;
     let after = outcome.device;
-    if !answer_code::is_done(answer) {
-        return reply_with(after, answer, 0);
-    }
     let bytes = [
         drive_code::value_of(decision),
         (outcome.place % 256) as u8,
         outcome.index,
     ];
-    wire_code::put(buffer, HEAD_SIZE, &bytes);
-    reply_with(after, answer, 3)
+    give(after, answer, &bytes, buffer)
 }
 
 // The read decision.
@@ -114,15 +122,11 @@ fn give_read(d: Device, n: u8, block: Block, buffer: &mut [u8]) -> Reply
     let answer = outcome.answer;
     let decision = outcome.decision;
     let after = outcome.device;
-    if !answer_code::is_done(answer) {
-        return reply_with(after, answer, 0);
-    }
     let bytes = [
         drive_code::read_value_of(decision),
         (outcome.place % 256) as u8,
     ];
-    wire_code::put(buffer, HEAD_SIZE, &bytes);
-    reply_with(after, answer, 2)
+    give(after, answer, &bytes, buffer)
 }
 
 // The status reader.
@@ -160,8 +164,7 @@ fn give_record(d: Device, buffer: &mut [u8]) -> Reply
     ensures { λ r. ⌜ Given (giveReply (state d)) (now (buffer .entry)) r (now (buffer .exit)) ⌝ }
 {
     let bytes = record_16::record_bytes(d);
-    wire_code::put(buffer, HEAD_SIZE, &bytes);
-    reply_with(d, Answer::Done, RECORD_SIZE)
+    give(d, Answer::Done, &bytes, buffer)
 }
 
 // An order, where the buffer that it asks for is there.

@@ -1,11 +1,11 @@
 use borrow.Author.Needs.{needs}
 use mathlib.Core.Path.{_≡_}
 use native.Mathlib.Omega.{arith}
-use denote.Ref.{now}
 use lib.ListN.{length}
 use Rattle.record.specs.Bytes.{recordSize}
 use Rattle.sizes_16.specs.Sizes.{nexusCount, placeCount}
 use Rattle.device_16.specs.Model.{state}
+use Rattle.stream_16.proofs.Giving.{given-as}
 use Rattle.stream_16.proofs.Tools.{record-given}
 use Rattle.stream_16.proofs.give_record.Statement.{statement}
 use Rattle.stream_16.proofs.give_record.Tie as tie
@@ -20,11 +20,9 @@ give-record-spec =
     (tie.spec
     (λ c κs. search needs)
     (λ c. search needs)
-    (λ c κs. search needs)
-    (λ c κs. search needs)
+    (λ c κs. omega (arith, sized (c .before .before)))
     (λ c. search needs)
     (λ c.
-    let put = c .before .before .before in
-    let made = put .before .before .before in
-    let a = made .before .before .args in
-    record-given (state (a .d)) (now (a .buffer)) (recordSize nexusCount placeCount) (made .record-bytes .ensures) (sized made) (omega arith) (put .put .ensures) (c .reply-with .ensures)))
+    let gave = c .before .before in
+    let made = gave .before .before .before in
+    given-as (record-given (state (made .before .before .args .d)) (made .record-bytes .ensures)) (gave .give .ensures)))
