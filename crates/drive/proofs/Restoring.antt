@@ -1,11 +1,12 @@
 -- Document 02, request 1: what holds of every read.
 -- Assumes nothing.
 use Prim.Native.Nat.{ℕ, _+_, _*_, _/_, _%_, _<_}
-use mathlib.Core.Path.{_≡_, refl, sym, ap, subst, _∙_}
+use mathlib.Core.Path.{_≡_, refl, sym, ap, ap₂, subst, _∙_}
+use mathlib.Core.Logic.{inl, inr}
 use mathlib.Core.Bool.{Bool, true, false, not, _||_, or-true}
 use mathlib.Core.List.{[], _∷_}
 use native.Mathlib.Omega.{arith}
-use borrow.Author.Tests.{eqb-true, eqb-false, eq-eqb, ne-eqb, leb-true, le-leb, ltb-true, ltb-false, not-false}
+use borrow.Author.Tests.{eqb-true, eqb-false, ne-eqb, leb-true, le-leb, ltb-true, ltb-false, not-false}
 use lib.Dec.{eqb, leb, ltb}
 use lib.ListN.{length}
 use Rattle.arrays.specs.Base.{if_then_else_}
@@ -29,17 +30,16 @@ use Rattle.device.specs.declared.Marks.{Marks}
 use Rattle.marks.specs.Marks.{changes, changed}
 use Rattle.marks.specs.declared.Actor.the-variants.{Acting}
 use Rattle.drive.specs.declared.Block.{Block}
-use Rattle.drive.specs.declared.ReadDecision.{ReadDecision}
-use Rattle.drive.specs.declared.ReadDecision.the-variants.{Withheld, Plain, Raw, Decrypted}
+use Rattle.drive.specs.declared.ReadDecision.the-variants.{Withheld, Decrypted}
 use Rattle.drive.specs.declared.Ruling.{Ruling}
 use Rattle.drive.specs.Calls.{write, read}
 use Rattle.drive.specs.Checks.{answerIf, firstOf, check1, heardOf, permitted, checks, answer}
 use Rattle.drive.specs.Effects.{refusal}
 use Rattle.drive.specs.After.{byNumber, carriedOut, actionsOf, after}
 use Rattle.drive.specs.Outcomes.{readDecision, decidedPlace}
-use Rattle.drive.specs.Restoring.{plainKind, encryptedKind, otherKind, noKey, blockOf, passes, underMode, holdsKey, hasKey, notKnown, restored, readValueOf}
+use Rattle.drive.specs.Restoring.{plainKind, encryptedKind, otherKind, noKey, blockOf, passes, underMode, holdsKey, notKnown, restored}
 use Rattle.drive.specs.Refusals.{OnlyMarks}
-use Rattle.drive.specs.RestoringClaims.{withoutLocks, ReadAlike, readNumber, onlyFlag, ReadLeaves, OnlyDue, GivenBack}
+use Rattle.drive.specs.RestoringClaims.{withoutLocks, ReadAlike, readNumber, onlyFlag, ReadLeaves, Known, StopDue, GivenDue, GivenBack}
 use Rattle.drive.specs.Claims.{block}
 use Rattle.drive.proofs.Checks.{first-stops, first-passes, front-done, last-is}
 use Rattle.drive.proofs.Effects.{refusal-changes, restored-own, read-effect}
@@ -169,62 +169,77 @@ read-leaves s n block =
           (λ f. ap (λ (x : Nexus). x .marks .registered) (only .others m f));
     }
 
--- ---- what is given
-
--- two decisions with different values differ
-apart : {C : Type 0} (x y : ReadDecision) → eqb (readValueOf x) (readValueOf y) ≡ false → x ≡ y → C
-apart x y f e = clash (eq-eqb _ _ (ap readValueOf e)) f
+-- ---- each answer and each block given, where it is due
 
 module _ (set : Set) (block : Block) where
-  -- each decision where it is due
-  none-due : OnlyDue set block Withheld
-  none-due = record { asPlain = apart Withheld Plain refl; asRaw = apart Withheld Raw refl; asDecrypted = apart Withheld Decrypted refl }
+  -- a ruling, both parts
+  abbrev Both : Ruling → Type 0
+  Both r = StopDue set block (r .answer) × GivenDue set block (r .decision)
 
-  plain-due : eqb (block .kind) plainKind ≡ true → OnlyDue set block Plain
-  plain-due t = record { asPlain = λ e. eqb-true (block .kind) plainKind t; asRaw = apart Plain Raw refl; asDecrypted = apart Plain Decrypted refl }
+  -- what is known of a block that passes check 14
+  known-is : notKnown set block ≡ false → Known set block
+  known-is f = (
+    leb-true _ _ (not-false _ (or-left-false (not (leb (block .kind) otherKind)) _ f)),
+    not-false _ (or-right-false (not (leb (block .kind) otherKind)) _ f),
+  )
 
-  -- a kind that isn't plain, and isn't above 2
-  raw-due : set .fields .decryption ≡ raw → eqb (block .kind) plainKind ≡ false → leb (block .kind) otherKind ≡ true → OnlyDue set block Raw
-  raw-due m p k =
-      let some = eqb-false (block .kind) plainKind p in
-      record { asPlain = apart Raw Plain refl; asRaw = λ e. (m, (omega (arith, some), leb-true _ _ k)); asDecrypted = apart Raw Decrypted refl }
-
-  decrypted-due : raw < set .fields .decryption → block .kind ≡ encryptedKind → hasKey set (block .key) ≡ true → OnlyDue set block Decrypted
-  decrypted-due m k h = record { asPlain = apart Decrypted Plain refl; asRaw = apart Decrypted Raw refl; asDecrypted = λ e. (m, (k, h)) }
+  -- and of one that doesn't
+  unknown-is : notKnown set block ≡ true → Known set block → ⊥
+  unknown-is t k = clash t (ap₂ (λ a b. not a || not b) (le-leb (block .kind) otherKind (k .0)) (k .1))
 
   -- by the definition's own tests
-  restored-due : OnlyDue set block (restored set block .decision)
+  restored-due : Both (restored set block)
   unfolding underMode
   restored-due =
-      let P : Ruling → Type 0 = λ r. OnlyDue set block (r .decision) in
       let mode = set .fields .decryption in
       let isPlain = eqb (block .kind) plainKind in
-      if-elim P (notKnown set block)
-      (λ t. none-due)
-      (λ known.
-      let low = not-false _ (or-left-false _ _ known) in
-      let had = not-false _ (or-right-false (not (leb (block .kind) otherKind)) _ known) in
-      if-elim P (eqb mode disable)
-      (λ d. if-elim P isPlain plain-due (λ f. none-due))
-      (λ d. if-elim P (eqb mode raw)
-      (λ r. if-elim P isPlain plain-due (λ f. raw-due (eqb-true mode raw r) f low))
-      (λ r. if-elim P isPlain
-      (λ p. if-elim P (eqb mode decrypt) (λ t. none-due) (λ f. plain-due p))
-      (λ p. if-elim P (eqb (block .kind) encryptedKind)
-      (λ k. if-elim P (eqb (block .key) noKey)
-      (λ none. none-due)
-      (λ some.
+      if-elim Both (notKnown set block)
+      (λ t. (unknown-is t, tt))
+      (λ f.
+      let known = known-is f in
+      let plain : isPlain ≡ true → block .kind ≡ plainKind = eqb-true (block .kind) plainKind in
+      let some : isPlain ≡ false → plainKind < block .kind = λ p. omega (arith, eqb-false (block .kind) plainKind p) in
+      if-elim Both (eqb mode disable)
+      (λ d. if-elim Both isPlain
+      (λ p. (tt, (known, (plain p, λ e. clash d (ap (λ m. eqb m disable) e)))))
+      (λ p. ((known, (some p, inl (eqb-true mode disable d))), tt)))
+      (λ d. if-elim Both (eqb mode raw)
+      (λ r. if-elim Both isPlain
+      (λ p. (tt, (known, (plain p, λ e. clash r (ap (λ m. eqb m raw) e)))))
+      (λ p. (tt, (known, (some p, eqb-true mode raw r)))))
+      (λ r.
       let above : raw < mode = omega (arith, eqb-false mode disable d, eqb-false mode raw r) in
-      decrypted-due above (eqb-true (block .kind) encryptedKind k) (or-other (eqb (block .key) noKey) _ had some)))
-      (λ k. none-due)))))
+      if-elim Both isPlain
+      (λ p. if-elim Both (eqb mode decrypt)
+      (λ t. ((known, (plain p, eqb-true mode decrypt t)), tt))
+      (λ t. (tt, (known, (plain p, eqb-false mode decrypt t)))))
+      (λ p. if-elim Both (eqb (block .kind) encryptedKind)
+      (λ k. if-elim Both (eqb (block .key) noKey)
+      (λ none. ((known, (eqb-true (block .kind) encryptedKind k, (eqb-true (block .key) noKey none, above))), tt))
+      (λ key. (tt, (known, (eqb-true (block .kind) encryptedKind k, (or-other (eqb (block .key) noKey) _ (known .1) key, above))))))
+      (λ k.
+      let last : block .kind ≡ otherKind = omega (arith, known .0, some p, eqb-false (block .kind) encryptedKind k) in
+      ((known, (some p, inr (above, last))), tt))))))
 
--- Whatever is read, by whom and from whatever record: plain is given of a plain block alone, raw under RAW alone and of an encrypted one,
--- decrypted under DECRYPT or MIXED alone, of a block of kind 1 that a key of the set in use opened.
-pub given-only : (s : State) (n : ℕ) (block : Block) → OnlyDue (selectedSet s n) block (readDecision s n block (answer s (read n block)))
-given-only s n block =
-    if-elim (OnlyDue (selectedSet s n) block) (isDone (answer s (read n block)))
-    (λ t. restored-due (selectedSet s n) block)
-    (λ f. none-due (selectedSet s n) block)
+  -- checks 1 to 4 tell nothing of them
+  first-due : (one two three four : Bool) → StopDue set block (firstOf (answerIf one NotWellFormed ∷ answerIf two NexusAbove ∷ answerIf three ChangedByAnotherNexus ∷ answerIf four ChangedByVendorEvent ∷ []))
+  first-due true two three four = tt
+  first-due false true three four = tt
+  first-due false false true four = tt
+  first-due false false false true = tt
+  first-due false false false false = tt
+
+-- Whatever is read, by whom and from whatever record: a read that is answered 14 to 17 is answered so where document 02 says, and a block
+-- is given plain, raw or decrypted where it says; so what is given as decrypted was opened by a key that the set in use has.
+pub reads-due : (s : State) (n : ℕ) (block : Block)
+    → StopDue (selectedSet s n) block (answer s (read n block)) × GivenDue (selectedSet s n) block (readDecision s n block (answer s (read n block)))
+reads-due s n block =
+    let set = selectedSet s n in
+    let marks = nexusAt s n .marks in
+    let due = restored-due set block in (
+      first-or-own (StopDue set block) s n block (first-due set block (not (wellFormed s)) (leb (length (s .nexuses)) n) (marks .another) (marks .vendor)) (due .0),
+      if-elim (GivenDue set block) (isDone (answer s (read n block))) (λ t. due .1) (λ f. tt),
+    )
 
 -- ---- what was written is read
 

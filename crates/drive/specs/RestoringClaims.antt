@@ -1,17 +1,19 @@
 -- What is claimed of reads (proofs/Restoring, proofs/RestoringTable).
 use Prim.Native.Nat.{ℕ, _-_, _<_, _≤_}
 use mathlib.Core.Path.{_≡_}
+use mathlib.Core.Logic.{_⊎_}
 use mathlib.Core.Bool.{Bool, true, false, _&&_, _||_}
 use mathlib.Core.List.{List, [], _∷_, _++_, map}
-use lib.Dec.{leb}
+use lib.Dec.{leb, eqb}
 use lib.ListN.{replicate}
 use Rattle.arrays.specs.Base.{if_then_else_}
 use Rattle.kad.specs.Kad.{noKads}
 use Rattle.answer.specs.Answers.{numberOf, changeOf, isDone}
-use Rattle.answer.specs.declared.Answer.the-variants.{Done}
+use Rattle.answer.specs.declared.Answer.{Answer}
+use Rattle.answer.specs.declared.Answer.the-variants.{Done, NotWellFormed, NexusAbove, ChangedByAnotherNexus, ChangedByVendorEvent, ProtocolNotSupported, PageNotSupported, PageLengthWrong, FieldWrong, FifthSupplementalKey, NoPlaceForLocal, KeyInstanceChanged, ParametersNotUsable, PlaceAbove, BlockNotKnown, UnableToDecrypt, NotEncrypted, KeyIncorrect}
 use Rattle.answer.specs.declared.Change.{Change}
 use Rattle.answer.specs.declared.Change.the-variants.{Unchanged, AnotherCleared, VendorCleared, Registered}
-use Rattle.parameters.specs.Codes.{allScope, raw}
+use Rattle.parameters.specs.Codes.{allScope, disable, raw, decrypt}
 use Rattle.parameters.specs.Fields.{noFields, noSupplemental}
 use Rattle.parameters.specs.declared.Fields.{Fields}
 use Rattle.device.specs.Record.{State, nexusAt, established}
@@ -20,12 +22,12 @@ use Rattle.device.specs.Updates.{withLock, withSaved, withScope, withSupplement
 use Rattle.marks.specs.declared.Actor.the-variants.{Acting}
 use Rattle.drive.specs.declared.Block.{Block}
 use Rattle.drive.specs.declared.ReadDecision.{ReadDecision}
-use Rattle.drive.specs.declared.ReadDecision.the-variants.{Plain, Raw, Decrypted}
+use Rattle.drive.specs.declared.ReadDecision.the-variants.{Withheld, Plain, Raw, Decrypted}
 use Rattle.drive.specs.Calls.{write, read}
 use Rattle.drive.specs.Checks.{answer}
 use Rattle.drive.specs.After.{actions, after}
 use Rattle.drive.specs.Outcomes.{readDecision, decidedPlace}
-use Rattle.drive.specs.Restoring.{plainKind, encryptedKind, otherKind, hasKey, readValueOf}
+use Rattle.drive.specs.Restoring.{plainKind, encryptedKind, otherKind, noKey, hasKey, readValueOf}
 use Rattle.drive.specs.Refusals.{OnlyMarks}
 use Rattle.drive.specs.Claims.{block, since, sameList}
 
@@ -62,14 +64,44 @@ pub record ReadLeaves (s : State) (n : ℕ) (block : Block) : Type 0 where
   pub flag : onlyFlag (changeOf (answer s (read n block))) ≡ true
   pub registered : (m : ℕ) → nexusAt (after s (read n block)) m .marks .registered ≡ nexusAt s m .marks .registered
 
--- ---- what is given
+-- ---- each answer and each block given, where it is due
 
--- plain is given of a plain block alone; raw under RAW alone, of one that is encrypted; decrypted under DECRYPT or MIXED alone, of one of
--- kind 1 that a key of the set opened
-pub record OnlyDue (set : Set) (block : Block) (decision : ReadDecision) : Type 0 where
-  pub asPlain : decision ≡ Plain → block .kind ≡ plainKind
-  pub asRaw : decision ≡ Raw → (set .fields .decryption ≡ raw) × ((plainKind < block .kind) × (block .kind ≤ otherKind))
-  pub asDecrypted : decision ≡ Decrypted → (raw < set .fields .decryption) × ((block .kind ≡ encryptedKind) × (hasKey set (block .key) ≡ true))
+-- the kind isn't above 2, and the key is none or one that the set has
+abbrev pub Known : Set → Block → Type 0
+Known set block = (block .kind ≤ otherKind) × ((eqb (block .key) noKey || hasKey set (block .key)) ≡ true)
+
+-- under DECRYPT or MIXED: the modes above RAW
+abbrev pub Decrypting : Set → Type 0
+Decrypting set = raw < set .fields .decryption
+
+-- what an answer of 14 to 17 tells of the set and the block; the others tell nothing of them
+abbrev pub StopDue : Set → Block → Answer → Type 0
+StopDue set block Done = Unit {0}
+StopDue set block NotWellFormed = Unit {0}
+StopDue set block NexusAbove = Unit {0}
+StopDue set block ChangedByAnotherNexus = Unit {0}
+StopDue set block ChangedByVendorEvent = Unit {0}
+StopDue set block ProtocolNotSupported = Unit {0}
+StopDue set block PageNotSupported = Unit {0}
+StopDue set block PageLengthWrong = Unit {0}
+StopDue set block FieldWrong = Unit {0}
+StopDue set block FifthSupplementalKey = Unit {0}
+StopDue set block NoPlaceForLocal = Unit {0}
+StopDue set block KeyInstanceChanged = Unit {0}
+StopDue set block ParametersNotUsable = Unit {0}
+StopDue set block PlaceAbove = Unit {0}
+StopDue set block BlockNotKnown = Known set block → ⊥
+StopDue set block UnableToDecrypt =
+    Known set block × ((plainKind < block .kind) × ((set .fields .decryption ≡ disable) ⊎ (Decrypting set × (block .kind ≡ otherKind))))
+StopDue set block NotEncrypted = Known set block × ((block .kind ≡ plainKind) × (set .fields .decryption ≡ decrypt))
+StopDue set block KeyIncorrect = Known set block × ((block .kind ≡ encryptedKind) × ((block .key ≡ noKey) × Decrypting set))
+
+-- and what is given
+abbrev pub GivenDue : Set → Block → ReadDecision → Type 0
+GivenDue set block Withheld = Unit {0}
+GivenDue set block Plain = Known set block × ((block .kind ≡ plainKind) × (set .fields .decryption ≡ decrypt → ⊥))
+GivenDue set block Raw = Known set block × ((plainKind < block .kind) × (set .fields .decryption ≡ raw))
+GivenDue set block Decrypted = Known set block × ((block .kind ≡ encryptedKind) × ((hasKey set (block .key) ≡ true) × Decrypting set))
 
 -- ---- what was written is read
 

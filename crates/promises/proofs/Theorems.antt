@@ -30,6 +30,8 @@ pub use Rattle.drive.proofs.Restoring.{lock-free, read-numbers, never-11}
 -- A read acts on no set, draws no number, registers nobody and changes nothing but a pending flag of its sender.
 pub use Rattle.drive.proofs.Restoring.{read-leaves}
 pub use Rattle.history.proofs.NoAction.{read-no-action}
+-- Whatever is read: each of the answers 14 to 17, and each block given plain, raw or decrypted, is due where document 02 says.
+pub use Rattle.drive.proofs.Restoring.{reads-due}
 -- Where a nexus may write, and its set decrypts, a block that its main key opened is given back decrypted, from the same place.
 pub use Rattle.drive.proofs.Restoring.{given-back}
 -- A set holds a main key exactly where a page with its modes has one; kind times 256 plus key is that kind and key.
