@@ -5,15 +5,18 @@ use mathlib.Core.Path.{_≡_, refl, sym, ap, ap₂, _∙_}
 use mathlib.Core.Bool.{Bool, true, false, not}
 use mathlib.Core.List.{List, [], _∷_, _++_}
 use borrow.Author.Tests.{not-true, not-false}
+use lib.Dec.{leb}
 use lib.ListN.{length}
 use Rattle.arrays.proofs.Base.{cases, clash}
 use Rattle.answer.specs.Answers.{isDone}
 use Rattle.answer.specs.declared.Answer.{Answer}
+use Rattle.answer.specs.declared.Answer.the-variants.{Done, NotWellFormed, NexusAbove, ChangedByAnotherNexus, ChangedByVendorEvent}
 use Rattle.answer.proofs.Numbers.{done-is}
 use Rattle.device.specs.Record.{State, nexusAt}
+use Rattle.device.specs.WellFormed.{wellFormed}
 use Rattle.device.specs.declared.Nexus.{Nexus}
 use Rattle.drive.specs.Calls.{Call}
-use Rattle.drive.specs.Checks.{answerIf, firstOf, heard, heardOf, checks, knownAnswer}
+use Rattle.drive.specs.Checks.{answerIf, firstOf, check1, heard, heardOf, checks, knownAnswer}
 
 -- where the first checks find a fault, theirs is the answer
 pub first-stops : (a b : List Answer) → isDone (firstOf a) ≡ false → firstOf (a ++ b) ≡ firstOf a
@@ -55,6 +58,18 @@ all-done (a ∷ more) e = cases (isDone a) (λ t. (t, all-done more (rw t at e))
 pub passed : (fault : Bool) (a : Answer) → isDone a ≡ false → isDone (answerIf fault a) ≡ true → fault ≡ false
 passed true a n e = clash e n
 passed false a n e = refl
+
+-- what holds of 0 to 4 holds of the answer of checks 1 to 4
+module _ (P : Answer → Type 0) (one : P NotWellFormed) (two : P NexusAbove) (three : P ChangedByAnotherNexus) (four : P ChangedByVendorEvent) (none : P Done) where
+  first-of : (a b c d : Bool) → P (firstOf (answerIf a NotWellFormed ∷ answerIf b NexusAbove ∷ answerIf c ChangedByAnotherNexus ∷ answerIf d ChangedByVendorEvent ∷ []))
+  first-of true b c d = one
+  first-of false true c d = two
+  first-of false false true d = three
+  first-of false false false true = four
+  first-of false false false false = none
+
+  pub first-told : (s : State) (n : ℕ) → P (firstOf (check1 s ∷ heardOf s n))
+  first-told s n = first-of (not (wellFormed s)) (leb (length (s .nexuses)) n) (nexusAt s n .marks .another) (nexusAt s n .marks .vendor)
 
 -- checks 2 to 4, of a nexus that was found in a record of so many
 pub heard-found : (s : State) (n nexuses : ℕ) (nexus : Nexus) (a : Answer) → length (s .nexuses) ≡ nexuses → nexus ≡ nexusAt s n

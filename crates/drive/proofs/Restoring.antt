@@ -13,7 +13,7 @@ use Rattle.arrays.specs.Base.{if_then_else_}
 use Rattle.arrays.proofs.Base.{cases, clash, if-elim, or-other, or-left-false, or-right-false}
 use Rattle.answer.specs.Answers.{numberOf, changeOf, isDone}
 use Rattle.answer.specs.declared.Answer.{Answer}
-use Rattle.answer.specs.declared.Answer.the-variants.{Done, NotWellFormed, NexusAbove, ChangedByAnotherNexus, ChangedByVendorEvent}
+use Rattle.answer.specs.declared.Answer.the-variants.{Done}
 use Rattle.answer.proofs.Numbers.{done-is}
 use Rattle.answer.specs.declared.Change.{Change}
 use Rattle.answer.specs.declared.Change.the-variants.{Unchanged, AnotherCleared, VendorCleared, Registered}
@@ -22,7 +22,6 @@ use Rattle.parameters.specs.Fields.{keySize}
 use Rattle.page.specs.Rules.{keyLength}
 use Rattle.device.specs.Record.{State, nexusAt}
 use Rattle.device.specs.Selecting.{selectedSet}
-use Rattle.device.specs.WellFormed.{wellFormed}
 use Rattle.device.specs.Updates.{withLock, withSaved}
 use Rattle.device.specs.declared.Set.{Set}
 use Rattle.device.specs.declared.Nexus.{Nexus}
@@ -33,7 +32,7 @@ use Rattle.drive.specs.declared.Block.{Block}
 use Rattle.drive.specs.declared.ReadDecision.the-variants.{Withheld, Decrypted}
 use Rattle.drive.specs.declared.Ruling.{Ruling}
 use Rattle.drive.specs.Calls.{write, read}
-use Rattle.drive.specs.Checks.{answerIf, firstOf, check1, heardOf, permitted, checks, answer}
+use Rattle.drive.specs.Checks.{firstOf, check1, heardOf, permitted, checks, answer}
 use Rattle.drive.specs.Effects.{refusal}
 use Rattle.drive.specs.After.{byNumber, carriedOut, actionsOf, after}
 use Rattle.drive.specs.Outcomes.{readDecision, decidedPlace}
@@ -41,7 +40,7 @@ use Rattle.drive.specs.Restoring.{plainKind, encryptedKind, otherKind, n
 use Rattle.drive.specs.Refusals.{OnlyMarks}
 use Rattle.drive.specs.RestoringClaims.{withoutLocks, ReadAlike, readNumber, onlyFlag, ReadLeaves, Known, StopDue, GivenDue, GivenBack}
 use Rattle.drive.specs.Claims.{block}
-use Rattle.drive.proofs.Checks.{first-stops, first-passes, front-done, last-is}
+use Rattle.drive.proofs.Checks.{first-stops, first-passes, front-done, first-told, last-is}
 use Rattle.drive.proofs.Effects.{refusal-changes, restored-own, read-effect}
 use Rattle.drive.proofs.Refusals.{changes-marks}
 use Rattle.drive.proofs.Seen.{Seen, selected-seen, used-seen, good-seen, read-kept}
@@ -89,29 +88,18 @@ first-or-own P s n block first own =
     (λ t. subst P (sym (first-passes front (a ∷ []) t ∙ last-is a)) own)
     (λ f. subst P (sym (first-stops front (a ∷ []) f)) first)
 
--- checks 1 to 4 answer 0 to 4, and change a flag or nothing
-pub record First (a : Answer) : Type 0 where
-  pub number : readNumber (numberOf a) ≡ true
-  pub flag : onlyFlag (changeOf a) ≡ true
+-- what is asked of a read's answer: its number, and that it changes a flag or nothing
+abbrev Asked : Answer → Type 0
+Asked a = (readNumber (numberOf a) ≡ true) × (onlyFlag (changeOf a) ≡ true)
 
-first-is : (one two three four : Bool) → First (firstOf (answerIf one NotWellFormed ∷ answerIf two NexusAbove ∷ answerIf three ChangedByAnotherNexus ∷ answerIf four ChangedByVendorEvent ∷ []))
-first-is true two three four = record { number = refl; flag = refl }
-first-is false true three four = record { number = refl; flag = refl }
-first-is false false true four = record { number = refl; flag = refl }
-first-is false false false true = record { number = refl; flag = refl }
-first-is false false false false = record { number = refl; flag = refl }
-
--- a read's answer: what is asked of its number, and of its change
-pub read-first : (s : State) (n : ℕ) (block : Block) → First (answer s (read n block))
-read-first s n block =
-    let marks = nexusAt s n .marks in
+read-asked : (s : State) (n : ℕ) (block : Block) → Asked (answer s (read n block))
+read-asked s n block =
     let own = restored-own (selectedSet s n) block in
-    first-or-own First s n block (first-is (not (wellFormed s)) (leb (length (s .nexuses)) n) (marks .another) (marks .vendor))
-    (record { number = own .number; flag = ap onlyFlag (own .quiet) })
+    first-or-own Asked s n block (first-told Asked (refl, refl) (refl, refl) (refl, refl) (refl, refl) (refl, refl) s n) (own .number, ap onlyFlag (own .quiet))
 
 -- A read is answered 0 to 4 or 14 to 17.
 pub read-numbers : (s : State) (n : ℕ) (block : Block) → readNumber (numberOf (answer s (read n block))) ≡ true
-read-numbers s n block = read-first s n block .number
+read-numbers s n block = read-asked s n block .0
 
 -- 11 is never a read's answer.
 pub never-11 : (s : State) (n : ℕ) (block : Block) → numberOf (answer s (read n block)) ≡ 11 → ⊥
@@ -153,7 +141,7 @@ flag-registered Registered marks e = clash e refl
 pub read-leaves : (s : State) (n : ℕ) (block : Block) → ReadLeaves s n block
 read-leaves s n block =
     let change = changeOf (answer s (read n block)) in
-    let flag = read-first s n block .flag in
+    let flag = read-asked s n block .1 in
     let only : OnlyMarks (Acting n) change s (after s (read n block)) = subst (OnlyMarks (Acting n) change s) (sym (read-after s n block)) (changes-marks (Acting n) change s) in
     record {
       acts = ap (actionsOf s) (read-effect s n block) ∙ refusal-acts s n (changeOf (firstOf (check1 s ∷ heardOf s n)));
@@ -221,23 +209,14 @@ module _ (set : Set) (block : Block) where
       let last : block .kind ≡ otherKind = omega (arith, known .0, some p, eqb-false (block .kind) encryptedKind k) in
       ((known, (some p, inr (above, last))), tt))))))
 
-  -- checks 1 to 4 tell nothing of them
-  first-due : (one two three four : Bool) → StopDue set block (firstOf (answerIf one NotWellFormed ∷ answerIf two NexusAbove ∷ answerIf three ChangedByAnotherNexus ∷ answerIf four ChangedByVendorEvent ∷ []))
-  first-due true two three four = tt
-  first-due false true three four = tt
-  first-due false false true four = tt
-  first-due false false false true = tt
-  first-due false false false false = tt
-
 -- Whatever is read, by whom and from whatever record: a read that is answered 14 to 17 is answered so where document 02 says, and a block
 -- is given plain, raw or decrypted where it says; so what is given as decrypted was opened by a key that the set in use has.
 pub reads-due : (s : State) (n : ℕ) (block : Block)
     → StopDue (selectedSet s n) block (answer s (read n block)) × GivenDue (selectedSet s n) block (readDecision s n block (answer s (read n block)))
 reads-due s n block =
     let set = selectedSet s n in
-    let marks = nexusAt s n .marks in
     let due = restored-due set block in (
-      first-or-own (StopDue set block) s n block (first-due set block (not (wellFormed s)) (leb (length (s .nexuses)) n) (marks .another) (marks .vendor)) (due .0),
+      first-or-own (StopDue set block) s n block (first-told (StopDue set block) tt tt tt tt tt s n) (due .0),
       if-elim (GivenDue set block) (isDone (answer s (read n block))) (λ t. due .1) (λ f. tt),
     )
 
