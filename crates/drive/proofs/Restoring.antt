@@ -2,15 +2,15 @@
 -- Assumes nothing.
 use Prim.Native.Nat.{ℕ, _+_, _*_, _/_, _%_, _<_}
 use mathlib.Core.Path.{_≡_, refl, sym, ap, ap₂, subst, _∙_}
-use mathlib.Core.Logic.{inl, inr}
+use mathlib.Core.Logic.{_⊎_, inl, inr, ⊎-elim}
 use mathlib.Core.Bool.{Bool, true, false, not, _||_, or-true}
 use mathlib.Core.List.{[], _∷_}
 use native.Mathlib.Omega.{arith}
-use borrow.Author.Tests.{eqb-true, eqb-false, ne-eqb, leb-true, le-leb, ltb-true, ltb-false, not-false}
+use borrow.Author.Tests.{eqb-true, eqb-false, eq-eqb, ne-eqb, leb-true, le-leb, ltb-true, ltb-false, not-false}
 use lib.Dec.{eqb, leb, ltb}
 use lib.ListN.{length}
 use Rattle.arrays.specs.Base.{if_then_else_}
-use Rattle.arrays.proofs.Base.{cases, clash, if-elim, or-other, or-left-false, or-right-false}
+use Rattle.arrays.proofs.Base.{cases, clash, both, and-both, if-elim, or-other, or-left-false, or-right-false}
 use Rattle.answer.specs.Answers.{numberOf, changeOf, isDone}
 use Rattle.answer.specs.declared.Answer.{Answer}
 use Rattle.answer.specs.declared.Answer.the-variants.{Done}
@@ -36,9 +36,9 @@ use Rattle.drive.specs.Checks.{firstOf, check1, heardOf, permitted, chec
 use Rattle.drive.specs.Effects.{refusal}
 use Rattle.drive.specs.After.{byNumber, carriedOut, actionsOf, after}
 use Rattle.drive.specs.Outcomes.{readDecision, decidedPlace}
-use Rattle.drive.specs.Restoring.{plainKind, encryptedKind, otherKind, noKey, blockOf, passes, underMode, holdsKey, notKnown, restored}
+use Rattle.drive.specs.Restoring.{plainKind, encryptedKind, otherKind, noKey, blockOf, passes, underMode, holdsKey, hasKey, notKnown, restored}
 use Rattle.drive.specs.Refusals.{OnlyMarks}
-use Rattle.drive.specs.RestoringClaims.{withoutLocks, ReadAlike, readNumber, onlyFlag, ReadLeaves, Known, StopDue, GivenDue, GivenBack}
+use Rattle.drive.specs.RestoringClaims.{Had, withoutLocks, ReadAlike, readNumber, onlyFlag, ReadLeaves, Known, StopDue, GivenDue, GivenBack}
 use Rattle.drive.specs.Claims.{block}
 use Rattle.drive.proofs.Checks.{first-stops, first-passes, front-done, first-told, last-is}
 use Rattle.drive.proofs.Effects.{refusal-changes, restored-own, read-effect}
@@ -164,16 +164,32 @@ module _ (set : Set) (block : Block) where
   abbrev Both : Ruling → Type 0
   Both r = StopDue set block (r .answer) × GivenDue set block (r .decision)
 
-  -- what is known of a block that passes check 14
+  -- check 14's test of a key
+  abbrev isKey : Bool
+  isKey = eqb (block .key) noKey || hasKey set (block .key)
+
+  key-is : isKey ≡ true → (block .key ≡ noKey) ⊎ Had set (block .key)
+  key-is e =
+      cases (eqb (block .key) noKey)
+      (λ t. inl (eqb-true (block .key) noKey t))
+      (λ f. let h = and-both _ _ (or-other (eqb (block .key) noKey) _ e f) in inr (h .0, leb-true _ _ (h .1)))
+
+  is-key : (block .key ≡ noKey) ⊎ Had set (block .key) → isKey ≡ true
+  is-key h =
+      ⊎-elim
+      (λ e. ap (λ b. b || hasKey set (block .key)) (eq-eqb (block .key) noKey e))
+      (λ d. ap (λ b. eqb (block .key) noKey || b) (both _ _ (d .0) (le-leb _ _ (d .1))) ∙ or-true (eqb (block .key) noKey))
+      h
+
+  -- what is known of a block that passes it
   known-is : notKnown set block ≡ false → Known set block
-  known-is f = (
-    leb-true _ _ (not-false _ (or-left-false (not (leb (block .kind) otherKind)) _ f)),
-    not-false _ (or-right-false (not (leb (block .kind) otherKind)) _ f),
-  )
+  known-is f =
+      let above = not (leb (block .kind) otherKind) in
+      (leb-true _ _ (not-false _ (or-left-false above (not isKey) f)), key-is (not-false _ (or-right-false above (not isKey) f)))
 
   -- and of one that doesn't
   unknown-is : notKnown set block ≡ true → Known set block → ⊥
-  unknown-is t k = clash t (ap₂ (λ a b. not a || not b) (le-leb (block .kind) otherKind (k .0)) (k .1))
+  unknown-is t k = clash t (ap₂ (λ a b. not a || not b) (le-leb (block .kind) otherKind (k .0)) (is-key (k .1)))
 
   -- by the definition's own tests
   restored-due : Both (restored set block)
@@ -204,7 +220,7 @@ module _ (set : Set) (block : Block) where
       (λ p. if-elim Both (eqb (block .kind) encryptedKind)
       (λ k. if-elim Both (eqb (block .key) noKey)
       (λ none. ((known, (eqb-true (block .kind) encryptedKind k, (eqb-true (block .key) noKey none, above))), tt))
-      (λ key. (tt, (known, (eqb-true (block .kind) encryptedKind k, (or-other (eqb (block .key) noKey) _ (known .1) key, above))))))
+      (λ key. (tt, (known, (eqb-true (block .kind) encryptedKind k, (⊎-elim (λ e. clash (eq-eqb (block .key) noKey e) key) (λ h. h) (known .1), above))))))
       (λ k.
       let last : block .kind ≡ otherKind = omega (arith, known .0, some p, eqb-false (block .kind) encryptedKind k) in
       ((known, (some p, inr (above, last))), tt))))))

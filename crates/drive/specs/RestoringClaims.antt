@@ -4,7 +4,7 @@ use mathlib.Core.Path.{_≡_}
 use mathlib.Core.Logic.{_⊎_}
 use mathlib.Core.Bool.{Bool, true, false, _&&_, _||_}
 use mathlib.Core.List.{List, [], _∷_, _++_, map}
-use lib.Dec.{leb, eqb}
+use lib.Dec.{leb}
 use lib.ListN.{replicate}
 use Rattle.arrays.specs.Base.{if_then_else_}
 use Rattle.kad.specs.Kad.{noKads}
@@ -27,7 +27,7 @@ use Rattle.drive.specs.Calls.{write, read}
 use Rattle.drive.specs.Checks.{answer}
 use Rattle.drive.specs.After.{actions, after}
 use Rattle.drive.specs.Outcomes.{readDecision, decidedPlace}
-use Rattle.drive.specs.Restoring.{plainKind, encryptedKind, otherKind, noKey, hasKey, readValueOf}
+use Rattle.drive.specs.Restoring.{plainKind, encryptedKind, otherKind, noKey, holdsKey, readValueOf}
 use Rattle.drive.specs.Refusals.{OnlyMarks}
 use Rattle.drive.specs.Claims.{block, since, sameList}
 
@@ -66,9 +66,13 @@ pub record ReadLeaves (s : State) (n : ℕ) (block : Block) : Type 0 where
 
 -- ---- each answer and each block given, where it is due
 
+-- the set has a key of that number
+abbrev pub Had : Set → ℕ → Type 0
+Had set key = (holdsKey set ≡ true) × (key ≤ set .supplemental .count)
+
 -- the kind isn't above 2, and the key is none or one that the set has
 abbrev pub Known : Set → Block → Type 0
-Known set block = (block .kind ≤ otherKind) × ((eqb (block .key) noKey || hasKey set (block .key)) ≡ true)
+Known set block = (block .kind ≤ otherKind) × ((block .key ≡ noKey) ⊎ Had set (block .key))
 
 -- under DECRYPT or MIXED: the modes above RAW
 abbrev pub Decrypting : Set → Type 0
@@ -101,7 +105,7 @@ abbrev pub GivenDue : Set → Block → ReadDecision → Type 0
 GivenDue set block Withheld = Unit {0}
 GivenDue set block Plain = Known set block × ((block .kind ≡ plainKind) × (set .fields .decryption ≡ decrypt → ⊥))
 GivenDue set block Raw = Known set block × ((plainKind < block .kind) × (set .fields .decryption ≡ raw))
-GivenDue set block Decrypted = Known set block × ((block .kind ≡ encryptedKind) × ((hasKey set (block .key) ≡ true) × Decrypting set))
+GivenDue set block Decrypted = Known set block × ((block .kind ≡ encryptedKind) × (Had set (block .key) × Decrypting set))
 
 -- ---- what was written is read
 
