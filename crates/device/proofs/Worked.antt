@@ -119,6 +119,9 @@ formed =
     ∷ withKads (kads 32 (replicate 32 9) 12 (replicate 12 9))
     ∷ withKeys (keys 4 (replicate 128 9))
     ∷ withSet 1 (established 3 localScope 7 (fieldsOf 0 0 1 0 false [] noKads))
+    -- CEEM 10b and 11b with decryption DISABLE, which no page makes since request 2
+    ∷ withFields (fields 1 0 1 2 noKads)
+    ∷ withFields (fields 2 0 1 3 noKads)
     ∷ []
 
 abbrev spoilt : List State

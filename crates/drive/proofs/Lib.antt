@@ -5,6 +5,7 @@ pub mod Keeps
 pub mod Refusals
 pub mod Restoring
 pub mod RestoringTable
+pub mod CeemTable
 pub mod Same
 pub mod Seen
 pub mod Table

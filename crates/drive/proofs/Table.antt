@@ -29,7 +29,7 @@ use Rattle.drive.specs.Outcomes.{responsePage}
 use Rattle.drive.specs.Claims.{page, pageK, locked, unlocked, withUKad, keyless, command, sends, since, sameRecord, told, done, Claim, answers, makes, leaves, gives, decides, selects, stands, marked, counts, holds, every}
 
 -- what a lent buffer holds before: bytes that no page has
-abbrev lent : ℕ → List ℕ
+abbrev pub lent : ℕ → List ℕ
 lent n = replicate n 0xEE
 
 -- nexus 3 sends K
@@ -121,7 +121,7 @@ abbrev lastNumber : State
 lastNumber = withCounter 4294967295 (since [])
 
 -- a record with nexus n registered and not told of anything
-abbrev known : ℕ → State → State
+abbrev pub known : ℕ → State → State
 known n = atNexus n (withMarks (record { registered = true; another = false; vendor = false }))
 
 -- nexus 5 sends PUBLIC; nexus 6 sends ALL with CKOD, and the volume is demounted: both flags are pending for nexus 5

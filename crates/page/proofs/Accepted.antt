@@ -1,19 +1,19 @@
 -- What is known of an accepted page: a PUBLIC one, one with a supplemental key, or one that makes a set.
 -- Assumes nothing.
 use mathlib.Core.Path.{_≡_, refl, ap}
-use mathlib.Core.Bool.{Bool, true, false, _&&_}
+use mathlib.Core.Bool.{Bool, true, false}
 use mathlib.Core.Logic.{_⊎_, inl, inr}
-use mathlib.Core.List.{List, [], _∷_}
+use mathlib.Core.List.{List}
 use Prim.Native.Nat.{ℕ, _+_, _<_, _≤_}
 use native.Mathlib.Omega.{arith}
 use borrow.Author.Tests.{eqb-true, eqb-false, leb-true, leb-false, ltb-false}
 use lib.Dec.{ltb, leb, eqb}
 use lib.ListN.{length, take, drop}
 use Rattle.arrays.specs.Base.{if_then_else_}
-use Rattle.arrays.proofs.Base.{cases, and-left, and-right, both, if-elim}
-use Rattle.wire.specs.Rules.{lengthWrong, Rule, breach}
+use Rattle.arrays.proofs.Base.{cases, and-left, and-right, if-elim}
+use Rattle.wire.specs.Rules.{lengthWrong, breach}
 use Rattle.wire.proofs.Stores.{length-padded}
-use Rattle.wire.proofs.Rules.{AllHold, kept, under-more}
+use Rattle.wire.proofs.Rules.{AllHold, kept, under-more, held-at}
 use Rattle.wire.proofs.Lowest.{right-length}
 use Rattle.answer.specs.Answers.{numberOf}
 use Rattle.answer.specs.declared.Answer.{Answer}
@@ -28,7 +28,7 @@ use Rattle.page.specs.Rules.{openRules, modeRules, plainRules, setRules,
 use Rattle.page.specs.Check.{refusedPage, publicPage, supplementalPage, setPage, checked}
 use Rattle.page.specs.declared.Page.{Page}
 use Rattle.page.specs.declared.Checked.{Checked}
-use Rattle.page.proofs.Parts.{open-under, set-hold, supplemental-hold}
+use Rattle.page.proofs.Parts.{two-or-three, open-under, set-hold, supplemental-hold}
 
 -- a PUBLIC page: "only SCOPE and LOCK are read"
 pub record IsPublic (page : Page) : Type 0 where
@@ -65,17 +65,6 @@ pub record IsSet (page : Page) : Type 0 where
 
 -- ---- what single rules say
 
--- the rules that point to byte i hold
-abbrev heldAt : ℕ → List Rule → Bool
-heldAt i [] = true
-heldAt i (r ∷ rules) = if eqb (r .at) i then r .holds && heldAt i rules else heldAt i rules
-
--- they do where all rules hold
-held-at : (i : ℕ) (rules : List Rule) → AllHold rules → heldAt i rules ≡ true
-held-at i [] h = refl
-held-at i (r ∷ rules) h =
-    if-elim (λ (b : Bool). b ≡ true) (eqb (r .at) i) (λ e. both (r .holds) (heldAt i rules) (h .0) (held-at i rules (h .1))) (λ e. held-at i rules (h .1))
-
 -- SCOPE is known
 scope-known : (p : List ℕ) → AllHold (openRules p) → scopeOf p ≤ 2
 unfolding openRules
@@ -100,10 +89,6 @@ index-known p h = eqb-true _ _ (and-left (eqb (indexOf p) 1) _ (held-at 8 (plain
 scope-same : (p : List ℕ) (scope mode : ℕ) → AllHold (matchRules p scope mode) → scopeOf p ≡ scope
 unfolding matchRules
 scope-same p scope mode h = eqb-true _ _ (and-left (eqb (scopeOf p) scope) _ (held-at 4 (matchRules p scope mode) h))
-
--- a mode that decrypts is 2 or 3
-two-or-three : (mode : ℕ) → decrypts mode ≡ true → (mode ≡ 2) ⊎ (mode ≡ 3)
-two-or-three mode h = cases (eqb mode 2) (λ e. inl (eqb-true mode 2 e)) (λ e. inr (eqb-true mode 3 (rw e at h)))
 
 -- and the set's mode decrypts
 mode-decrypts : (p : List ℕ) (scope mode : ℕ) → AllHold (matchRules p scope mode) → decrypts mode ≡ true

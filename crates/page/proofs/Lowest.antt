@@ -79,7 +79,7 @@ after-sorted p =
     (λ t. rw t (omega arith, tt))
 
 -- past the page code and the scope
-inner-sorted : (p : List ℕ) (scope mode : ℕ) → Sorted 4 (innerRules p scope mode)
+pub inner-sorted : (p : List ℕ) (scope mode : ℕ) → Sorted 4 (innerRules p scope mode)
 unfolding innerRules
 inner-sorted p scope mode =
     cases (isPublic p) (λ t. rw t tt)

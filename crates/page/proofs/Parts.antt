@@ -1,12 +1,14 @@
 -- The parts of a page's rules: bytes 4 to 7, bytes 8 to 17, the key, the end.
 -- Assumes nothing.
 use mathlib.Core.Path.{_≡_, sym, _∙_}
+use mathlib.Core.Bool.{true, _||_}
+use mathlib.Core.Logic.{_⊎_, inl, inr}
 use mathlib.Core.List.{List, _++_}
 use Prim.Native.Nat.{ℕ, _+_, _<_, _≤_}
 use native.Mathlib.Nat.{not-le-of-lt}
 use native.Mathlib.Omega.{arith}
 use borrow.Author.Tests.{eqb-true, leb-true, leb-false}
-use lib.Dec.{leb}
+use lib.Dec.{leb, eqb}
 use lib.ListN.{length, drop, length-take}
 use Rattle.arrays.proofs.Base.{cases}
 use Rattle.wire.specs.Rules.{Rule, breach, zeroRules}
@@ -15,6 +17,10 @@ use Rattle.wire.proofs.Lowest.{first-hold}
 use Rattle.parameters.specs.Fields.{keySize}
 use Rattle.page.specs.Fields.{reservedFrom, reservedSize, reservedBytes, keyFrom, keyedSize, encryptionOf, decryptionOf, keyLengthOf, keyEnd}
 use Rattle.page.specs.Rules.{openRules, modeRules, plainRules, keyLength, keyRules, setRules, matchRules, endRules, supplementalRules}
+
+-- a code that is 2 or 3: DECRYPT or MIXED, CEEM 10b or 11b
+pub two-or-three : (code : ℕ) → (eqb code 2 || eqb code 3) ≡ true → (code ≡ 2) ⊎ (code ≡ 3)
+two-or-three code h = cases (eqb code 2) (λ e. inl (eqb-true code 2 e)) (λ e. inr (eqb-true code 3 (rw e at h)))
 
 -- ---- the bytes that each part points to
 

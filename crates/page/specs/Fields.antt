@@ -43,6 +43,9 @@ reservedOf p = setByte4 (byteAt p 4) .reserved
 abbrev pub lockOf : List ℕ → Bool
 lockOf p = setByte4 (byteAt p 4) .lock
 
+abbrev pub ceemOf : List ℕ → ℕ
+ceemOf p = setByte5 (byteAt p 5) .ceem
+
 abbrev pub rdmcOf : List ℕ → ℕ
 rdmcOf p = setByte5 (byteAt p 5) .rdmc
 
@@ -105,7 +108,7 @@ fieldsWith p key kads = record {
   encryption = encryptionOf p;
   decryption = decryptionOf p;
   index = indexOf p;
-  ceem = setByte5 (byteAt p 5) .ceem;
+  ceem = ceemOf p;
   rdmd = rdmdOf (encryptionOf p) (rdmcOf p);
   ckod = setByte5 (byteAt p 5) .ckod;
   ckorp = setByte5 (byteAt p 5) .ckorp;

@@ -2,3 +2,4 @@ pub mod Fields
 pub mod Rules
 pub mod Check
 pub mod Lowest
+pub mod Byte5

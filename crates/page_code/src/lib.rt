@@ -8,6 +8,7 @@ use page::Page;
 use page::SetByte4;
 use page::SetByte5;
 use parameters::ALL;
+use parameters::DISABLE;
 use parameters::ENCRYPT;
 use parameters::Fields;
 use parameters::KEY_SIZE;
@@ -91,10 +92,14 @@ fn mode_fault(page: &[u8], byte4: SetByte4, byte5: SetByte5) -> usize
     if parameters_code::is_encrypt(encryption) & (byte5.rdmc == 1) {
         return 5;
     }
+    let decryption = page[7];
+    if ((byte5.ceem == 2) | (byte5.ceem == 3)) & (decryption == DISABLE) {
+        return 5;
+    }
     if ENCRYPT < encryption {
         return 6;
     }
-    if MIXED < page[7] {
+    if MIXED < decryption {
         return 7;
     }
     8

@@ -13,6 +13,8 @@ pub use Rattle.kad.proofs.RoundTrip.{read-of-written as kad-read-of-written, wr
 -- The faulty byte of a refused page is the lowest at which a rule breaks; of a page that is taken, or refused by answer 9,
 -- none breaks.
 pub use Rattle.page.proofs.Lowest.{wrong-is-lowest, done-breaks-none, fifth-breaks-none}
+-- Document 02, request 2: a page is refused at byte 5 exactly where RDMC or CEEM is wrong.
+pub use Rattle.page.proofs.Byte5.{byte-5-due, byte-5-told}
 -- The same of the status reader: the faulty byte of answer 8 is the lowest at which a rule of the page breaks, and of a page that is read
 -- none breaks.
 pub use Rattle.status.proofs.Lowest.{status-lowest}
@@ -38,6 +40,8 @@ pub use Rattle.drive.proofs.Restoring.{given-back}
 pub use Rattle.drive.proofs.Restoring.{holds-as-asked, block-of-both}
 -- Document 02's table of reads under each decryption mode, and rows through the calls.
 pub use Rattle.drive.proofs.RestoringTable.{disable-decided, raw-decided, decrypt-decided, mixed-decided, restoring, restoring-proved}
+-- Document 02, request 2, through the calls.
+pub use Rattle.drive.proofs.CeemTable.{ceem, ceem-proved}
 -- A row that finds two records the same finds them equal, field by field.
 pub use Rattle.drive.proofs.Same.{same-record}
 -- A reply's head has the bytes that stand before the data, and tells its number, its sense and how many bytes of data follow.

@@ -1,7 +1,7 @@
 -- Laws of rule lists: what a breach tells of them, and that it is the lowest where they stand in the order of their bytes.
 -- Assumes nothing.
 use mathlib.Core.Path.{_≡_, refl, sym, subst, _∙_}
-use mathlib.Core.Bool.{true, false}
+use mathlib.Core.Bool.{Bool, true, false, _&&_}
 use mathlib.Core.Logic.{_⊎_, inl, inr, ⊎-elim}
 use mathlib.Core.List.{List, [], _∷_, _++_}
 use Prim.Native.Nat.{ℕ, zero, suc, _+_, _<_, _≤_}
@@ -12,6 +12,7 @@ use borrow.Author.Tests.{eq-eqb, ne-eqb}
 use lib.Dec.{eqb}
 use lib.ListN.{length, drop, getD}
 use lib.Seq.{drop-cons}
+use Rattle.arrays.specs.Base.{if_then_else_}
 use Rattle.arrays.proofs.Base.{cases, clash, both, if-elim, if-map}
 use Rattle.arrays.proofs.Laws.{all-cons}
 use Rattle.wire.specs.Buffers.{allZero}
@@ -167,6 +168,32 @@ sorted-from (r ∷ rs) m n l s = (omega arith, s .1)
 pub sorted-append : (xs ys : List Rule) (m n : ℕ) → Sorted m xs → Under n xs → m ≤ n → Sorted n ys → Sorted m (xs ++ ys)
 sorted-append [] ys m n s u l t = sorted-from ys m n l t
 sorted-append (r ∷ xs) ys m n s u l t = (s .0, sorted-append xs ys (r .at) n (s .1) (u .1) (omega arith) t)
+
+-- ---- the rules of one byte
+
+-- the rules that point to byte i hold
+abbrev pub heldAt : ℕ → List Rule → Bool
+heldAt i [] = true
+heldAt i (r ∷ rules) = if eqb (r .at) i then r .holds && heldAt i rules else heldAt i rules
+
+-- they do where all rules hold
+pub held-at : (i : ℕ) (rules : List Rule) → AllHold rules → heldAt i rules ≡ true
+held-at i [] h = refl
+held-at i (r ∷ rules) h =
+    if-elim (λ (b : Bool). b ≡ true) (eqb (r .at) i) (λ e. both (r .holds) (heldAt i rules) (h .0) (held-at i rules (h .1))) (λ e. held-at i rules (h .1))
+
+-- and where all point to later bytes
+pub held-later : (i m : ℕ) (rules : List Rule) → i < m → Sorted m rules → heldAt i rules ≡ true
+held-later i m [] l s = refl
+held-later i m (r ∷ rules) l s = rw (ne-eqb (r .at) i (λ e. omega arith)) (held-later i (r .at) rules (omega arith) (s .1))
+
+-- but not where one breaks there
+pub broken-at : (i : ℕ) (rules : List Rule) → BreaksAt i rules → heldAt i rules ≡ false
+broken-at i [] b = absurd b
+broken-at i (r ∷ rules) b =
+    if-elim (λ (x : Bool). x ≡ false) (eqb (r .at) i)
+    (λ e. cases (r .holds) (λ t. rw t (⊎-elim (λ h. clash t (h .1)) (λ h. broken-at i rules h) b)) (λ t. rw t refl))
+    (λ e. ⊎-elim (λ h. clash (eq-eqb (r .at) i (h .0)) e) (λ h. broken-at i rules h) b)
 
 -- ---- bytes that are zero
 

@@ -23,33 +23,49 @@ mode-fault-spec =
       ← e .is-encrypt .ensures,
       c .if2 .taken,
     ))
-    (λ c. let f2 = c .before in let e = f2 .before .before in let f1 = e .before .before in let s = f1 .before .before .before in
-    simp (
-      ← ap (λ (r : SetByte4). r .reserved) (s .pre .1),
-      eq-eqb _ _ (f1 .if1 .left),
-      ← ap (λ (r : SetByte5). r .rdmc) (s .pre .2),
-      ← e .is-encrypt .ensures,
-      f2 .if2 .left,
-      lt-leb _ _ (c .if3 .taken),
-    ))
     (λ c. search needs)
-    (λ c. let f3 = c .before .before in let f2 = f3 .before in let e = f2 .before .before in let f1 = e .before .before in let s = f1 .before .before .before in
+    (λ c. let f2 = c .before .before .before .before in let e = f2 .before .before in let f1 = e .before .before in let s = f1 .before .before .before in
     simp (
       ← ap (λ (r : SetByte4). r .reserved) (s .pre .1),
       eq-eqb _ _ (f1 .if1 .left),
       ← ap (λ (r : SetByte5). r .rdmc) (s .pre .2),
+      ← ap (λ (r : SetByte5). r .ceem) (s .pre .2),
       ← e .is-encrypt .ensures,
       f2 .if2 .left,
-      le-leb _ _ (f3 .if3 .left),
+      c .if3 .taken,
+    ))
+    (λ c. let f3 = c .before in let f2 = f3 .before .before .before .before in let e = f2 .before .before in let f1 = e .before .before in let s = f1 .before .before .before in
+    simp (
+      ← ap (λ (r : SetByte4). r .reserved) (s .pre .1),
+      eq-eqb _ _ (f1 .if1 .left),
+      ← ap (λ (r : SetByte5). r .rdmc) (s .pre .2),
+      ← ap (λ (r : SetByte5). r .ceem) (s .pre .2),
+      ← e .is-encrypt .ensures,
+      f2 .if2 .left,
+      f3 .if3 .left,
       lt-leb _ _ (c .if4 .taken),
     ))
-    (λ c. let f3 = c .before .before in let f2 = f3 .before in let e = f2 .before .before in let f1 = e .before .before in let s = f1 .before .before .before in
+    (λ c. let f4 = c .before in let f3 = f4 .before in let f2 = f3 .before .before .before .before in let e = f2 .before .before in let f1 = e .before .before in let s = f1 .before .before .before in
     simp (
       ← ap (λ (r : SetByte4). r .reserved) (s .pre .1),
       eq-eqb _ _ (f1 .if1 .left),
       ← ap (λ (r : SetByte5). r .rdmc) (s .pre .2),
+      ← ap (λ (r : SetByte5). r .ceem) (s .pre .2),
       ← e .is-encrypt .ensures,
       f2 .if2 .left,
-      le-leb _ _ (f3 .if3 .left),
-      le-leb _ _ (c .if4 .left),
+      f3 .if3 .left,
+      le-leb _ _ (f4 .if4 .left),
+      lt-leb _ _ (c .if5 .taken),
+    ))
+    (λ c. let f4 = c .before in let f3 = f4 .before in let f2 = f3 .before .before .before .before in let e = f2 .before .before in let f1 = e .before .before in let s = f1 .before .before .before in
+    simp (
+      ← ap (λ (r : SetByte4). r .reserved) (s .pre .1),
+      eq-eqb _ _ (f1 .if1 .left),
+      ← ap (λ (r : SetByte5). r .rdmc) (s .pre .2),
+      ← ap (λ (r : SetByte5). r .ceem) (s .pre .2),
+      ← e .is-encrypt .ensures,
+      f2 .if2 .left,
+      f3 .if3 .left,
+      le-leb _ _ (f4 .if4 .left),
+      le-leb _ _ (c .if5 .left),
     )))
