@@ -229,7 +229,7 @@ static enum answer check_page(const struct device *d, u8 n, const u8 *b, usize s
         u8 mode = set->fields.decryption;
         if (scope != d->nexuses[n].scope || b[7] != mode || (mode != 2 && mode != 3)) return FIELD;
     } else {
-        if ((b[6] == 2 && (b[5] >> 4 & 3) == 1) || b[6] > 2 || b[7] > 3) return FIELD;
+        if ((b[6] == 2 && (b[5] >> 4 & 3) == 1) || (b[5] >> 6 >= 2 && b[7] == 0) || b[6] > 2 || b[7] > 3) return FIELD;
     }
     if (b[8] != 1 || b[9] || b[10] || !all_zero(b + 11, 7)) return FIELD;
     usize length = word_at(b + 18);

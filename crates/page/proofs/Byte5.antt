@@ -22,7 +22,7 @@ use Rattle.page.specs.Fields.{keyFrom, pageCode, scopeOf, isPublic, rese
 use Rattle.page.specs.Rules.{openRules, ceemWrong, modeRules, plainRules, keyLength, keyRules, setRules, matchRules, endRules, supplementalRules}
 use Rattle.page.specs.Check.{refusedPage, setPage, checked}
 use Rattle.page.specs.Lowest.{afterRules, innerRules, pageRules}
-use Rattle.page.specs.Byte5.{MakesSet, RdmcFault, CeemFault, Byte5Fault, WrongAt5}
+use Rattle.page.specs.Byte5.{MakesSet, RdmcFault, CeemFault, Byte5Fault, WrongAt}
 use Rattle.page.specs.declared.Checked.{Checked}
 use Rattle.page.proofs.Parts.{two-or-three}
 use Rattle.page.proofs.Lowest.{inner-sorted, length-verdict, wrong-is-lowest}
@@ -104,7 +104,7 @@ module _ (p : List ℕ) (scope mode count : ℕ) where
         ⊎-elim (λ h. let e : 0 ≡ 5 = h .0 in absurd (omega arith)) (⊎-elim (λ h. let e : 4 ≡ 5 = h .0 in absurd (omega arith)) (λ b. b)) (low .broken)
 
   -- A page that is refused at byte 5 is LOCAL or ALL with SDK 0, right up to byte 4, with RDMC 01b under ENCRYPT or CEEM 10b or 11b and decryption DISABLE.
-  pub byte-5-due : WrongAt5 (checked p scope mode count) → MakesSet p × Byte5Fault p
+  pub byte-5-due : WrongAt 5 (checked p scope mode count) → MakesSet p × Byte5Fault p
   byte-5-due w =
       let low : Lowest 5 (pageRules p scope mode) = rw (w .1) at (wrong-is-lowest p scope mode count (w .0)) in
       let f = inner-fault p scope mode (inner-breaks low) in
@@ -136,7 +136,7 @@ module _ (p : List ℕ) (makes : MakesSet p) where
       (λ c. let wrong : ceemWrong (ceemOf p) (decryptionOf p) ≡ true = rw (c .1) (⊎-elim (λ e. rw e refl) (λ e. rw e refl) (c .0)) in simp (zero, t, wrong)) f)
 
   -- A LOCAL or ALL page with SDK 0, right up to byte 4, with RDMC 01b under ENCRYPT or CEEM 10b or 11b and decryption DISABLE, is refused at byte 5.
-  pub byte-5-told : (scope mode count : ℕ) → Byte5Fault p → WrongAt5 (checked p scope mode count)
+  pub byte-5-told : (scope mode count : ℕ) → Byte5Fault p → WrongAt 5 (checked p scope mode count)
   unfolding checked openRules setPage
   byte-5-told scope mode count f =
       let long : 5 < length p = omega (arith, right-length keyFrom p (makes .sized) .0) in

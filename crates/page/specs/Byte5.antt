@@ -30,6 +30,6 @@ CeemFault p = ((ceemOf p ≡ 2) ⊎ (ceemOf p ≡ 3)) × (decryptionOf p ≡ dis
 abbrev pub Byte5Fault : List ℕ → Type 0
 Byte5Fault p = RdmcFault p ⊎ CeemFault p
 
--- answer 8, at byte 5
-abbrev pub WrongAt5 : Checked → Type 0
-WrongAt5 c = (c .answer ≡ FieldWrong) × (c .fault ≡ 5)
+-- answer 8, at byte i
+abbrev pub WrongAt : ℕ → Checked → Type 0
+WrongAt i c = (c .answer ≡ FieldWrong) × (c .fault ≡ i)
