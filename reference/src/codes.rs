@@ -22,6 +22,12 @@ pub mod decryption {
     pub const MIXED: u8 = 3;
 }
 
+/// The CEEM values that have blocks checked (000, table 8); 02, request 2: "CEEM 10b or 11b".
+pub mod ceem {
+    pub const REPORTS_EXTERNAL: u8 = 0b10;
+    pub const REPORTS_ENCRYPT: u8 = 0b11;
+}
+
 /// 02, request 1: "block kind 0 plain, 1 encrypted under algorithm 1, 2 encrypted otherwise".
 pub mod block_kind {
     pub const PLAIN: u8 = 0;

@@ -1,5 +1,5 @@
-//! A second, independent account of document 01, and of request 1 of document 02: the encryption controller of a
-//! tape drive, and the program that compares it with another drive on a pipe.
+//! A second, independent account of document 01, and of requests 1 and 2 of document 02: the encryption controller of
+//! a tape drive, and the program that compares it with another drive on a pipe.
 
 #![forbid(unsafe_code)]
 

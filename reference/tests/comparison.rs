@@ -4,11 +4,11 @@
 
 #![forbid(unsafe_code)]
 
-use reference::codes::scope;
+use reference::codes::{ceem, decryption, encryption, scope};
 use reference::comparison::session;
 use reference::record::{Nexus, Record, Set};
 use reference::record_bytes;
-use reference::stream::{kind, Command, Drive, Reply};
+use reference::stream::{kind, Command, Drive, Reply, LENT_FILL};
 use std::io::{self, Write};
 use std::process::{Command as Program, ExitCode};
 
@@ -52,6 +52,18 @@ const READ_FAULTS: [Fault; 5] = [
     ("raw-for-plain", raw_for_plain, 3),
     ("key-above-count-taken", key_above_count_taken, 3),
     ("mixed-refuses-plain", mixed_refuses_plain, 3),
+];
+
+/// Wrong drives around 02's request 2; the directed sessions are to find them.
+const CEEM_FAULTS: [Fault; 8] = [
+    ("ceem-10b-alone", ceem_10b_alone, 2),
+    ("ceem-11b-alone", ceem_11b_alone, 2),
+    ("ceem-of-local-alone", ceem_of_local_alone, 2),
+    ("ceem-of-public", ceem_of_public, 2),
+    ("ceem-of-sdk-1", ceem_of_sdk_1, 2),
+    ("ceem-with-raw", ceem_with_raw, 2),
+    ("ceem-with-encryption-disable", ceem_with_encryption_disable, 2),
+    ("held-set-not-well-formed", held_set_not_well_formed, 2),
 ];
 
 /// A released place takes its own number plus one.
@@ -201,10 +213,7 @@ fn rdmc_under_external(moment: &mut Moment) {
     let page = &moment.command.data;
     let set_page = moment.command.kind == kind::OUT && moment.reply.number == 0 && page[4] >> 5 != 0;
     if set_page && page[5] & 0x38 == 0x10 && page[6] == 1 {
-        *moment.after = moment.before.clone();
-        moment.after.nexuses[usize::from(moment.command.nexus)].registered = true;
-        moment.reply.number = 8;
-        moment.reply.sense = [5, 0x26, 0];
+        refuse_page(moment);
     }
 }
 
@@ -293,6 +302,114 @@ fn mixed_refuses_plain(moment: &mut Moment) {
     }
 }
 
+/// The reply becomes a page's refusal, which registers its sender.
+fn refuse_page(moment: &mut Moment) {
+    *moment.after = moment.before.clone();
+    moment.after.nexuses[usize::from(moment.command.nexus)].registered = true;
+    refuse(moment, 8, [5, 0x26, 0]);
+}
+
+/// A Set page with CEEM 10b or 11b.
+struct CeemPage {
+    scope: u8,
+    sdk: bool,
+    ceem: u8,
+    encryption: u8,
+    decryption: u8,
+}
+
+impl CeemPage {
+    /// Whether the request's rule is asked.
+    fn is_asked(&self) -> bool {
+        matches!(self.scope, scope::LOCAL | scope::ALL) && !self.sdk
+    }
+}
+
+/// The page at hand, if it is one with CEEM 10b or 11b whose fields are looked at.
+fn ceem_page_at_hand(moment: &Moment) -> Option<CeemPage> {
+    if moment.command.kind != kind::OUT || !matches!(moment.reply.number, 0 | 8..=10) {
+        return None;
+    }
+    let page = &moment.command.data;
+    let (scope, sdk, ceem) = (page[4] >> 5, page[5] & 0x08 != 0, page[5] >> 6);
+    let page = CeemPage { scope, sdk, ceem, encryption: page[6], decryption: page[7] };
+    (ceem >= ceem::REPORTS_EXTERNAL).then_some(page)
+}
+
+/// The request's rule is left out for some pages: such a page is sent with CEEM 01b, and its set gets the CEEM it had.
+fn spare(moment: &mut Moment, spared: impl Fn(&CeemPage) -> bool) {
+    let spared = |page: &CeemPage| page.is_asked() && page.decryption == decryption::DISABLE && spared(page);
+    let Some(page) = ceem_page_at_hand(moment).filter(spared) else { return };
+    let mut command = moment.command.clone();
+    command.data[5] = command.data[5] & 0x3F | 0x40;
+    let mut drive = Drive::new();
+    drive.answer(&session::load(moment.before));
+    *moment.reply = drive.answer(&command);
+    *moment.after = drive.controller().record.clone();
+    if moment.reply.number == 0 {
+        let place = moment.after.selected_place(usize::from(command.nexus));
+        moment.after.places[place].ceem = page.ceem;
+    }
+}
+
+/// CEEM 11b isn't refused.
+fn ceem_10b_alone(moment: &mut Moment) {
+    spare(moment, |page| page.ceem == ceem::REPORTS_ENCRYPT);
+}
+
+/// CEEM 10b isn't refused.
+fn ceem_11b_alone(moment: &mut Moment) {
+    spare(moment, |page| page.ceem == ceem::REPORTS_EXTERNAL);
+}
+
+/// ALL pages aren't refused.
+fn ceem_of_local_alone(moment: &mut Moment) {
+    spare(moment, |page| page.scope == scope::ALL);
+}
+
+/// The request's rule refuses more pages.
+fn refuse_too(moment: &mut Moment, refused: impl Fn(&CeemPage) -> bool) {
+    if ceem_page_at_hand(moment).is_some_and(|page| refused(&page)) {
+        refuse_page(moment);
+    }
+}
+
+/// PUBLIC pages are refused too.
+fn ceem_of_public(moment: &mut Moment) {
+    refuse_too(moment, |page| page.scope == scope::PUBLIC && page.decryption == decryption::DISABLE);
+}
+
+/// Supplemental keys are refused too, in every mode. (With DISABLE alone it couldn't be seen: with SDK 1 that mode is
+/// answered 8 anyway.)
+fn ceem_of_sdk_1(moment: &mut Moment) {
+    refuse_too(moment, |page| page.scope != scope::PUBLIC && page.sdk);
+}
+
+/// RAW is taken for DISABLE.
+fn ceem_with_raw(moment: &mut Moment) {
+    refuse_too(moment, |page| page.is_asked() && page.decryption == decryption::RAW);
+}
+
+/// Encryption DISABLE is taken for decryption DISABLE.
+fn ceem_with_encryption_disable(moment: &mut Moment) {
+    refuse_too(moment, |page| page.is_asked() && page.encryption == encryption::DISABLE);
+}
+
+/// A record is called not well formed if it holds a set that no page can bring any more.
+fn held_set_not_well_formed(moment: &mut Moment) {
+    let held = |set: &Set| {
+        set.is_used() && set.ceem >= ceem::REPORTS_EXTERNAL && set.decryption == decryption::DISABLE
+    };
+    let asks = matches!(moment.command.kind, kind::IN..=kind::READ) && moment.reply.number != 255;
+    if asks && moment.before.places.iter().any(held) {
+        *moment.after = moment.before.clone();
+        refuse(moment, 1, [0; 3]);
+        if moment.command.kind == kind::IN {
+            moment.reply.data = [vec![0; 2], vec![LENT_FILL; usize::from(moment.command.length)]].concat();
+        }
+    }
+}
+
 /// A drive with a fault, on a pipe.
 fn faulty_drive(fault: fn(&mut Moment)) -> io::Result<()> {
     let mut drive = Drive::new();
@@ -338,8 +455,8 @@ fn failures() -> Vec<String> {
     let this = std::env::current_exe().expect("this program has a path");
     let this = this.to_string_lossy();
     let faults = FAULTS.iter().map(|fault| (fault, &["--calls", "20000"][..]));
-    let read_faults = READ_FAULTS.iter().map(|fault| (fault, &["--directed"][..]));
-    for ((name, _, longest), sessions) in faults.chain(read_faults) {
+    let of_requests = READ_FAULTS.iter().chain(&CEEM_FAULTS).map(|fault| (fault, &["--directed"][..]));
+    for ((name, _, longest), sessions) in faults.chain(of_requests) {
         let faulty = ["--seed", "1", "--patience", "1", &this, "--fault", name];
         let (equal, report) = compare(&[sessions, &faulty].concat());
         match commands_in(&report) {
@@ -355,7 +472,8 @@ fn failures() -> Vec<String> {
 fn main() -> ExitCode {
     let arguments: Vec<String> = std::env::args().collect();
     if let Some(at) = arguments.iter().position(|argument| argument == "--fault") {
-        let fault = FAULTS.iter().chain(&READ_FAULTS).find(|(name, _, _)| *name == arguments[at + 1]);
+        let mut faults = FAULTS.iter().chain(&READ_FAULTS).chain(&CEEM_FAULTS);
+        let fault = faults.find(|(name, _, _)| *name == arguments[at + 1]);
         let (_, fault, _) = fault.expect("the fault has a name");
         return if faulty_drive(*fault).is_ok() { ExitCode::SUCCESS } else { ExitCode::FAILURE };
     }

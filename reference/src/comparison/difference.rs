@@ -51,10 +51,11 @@ pub fn compare(
     let give_record = give_record();
     let mut expected = Vec::new();
     for (number, command) in commands.iter().enumerate() {
+        let before = drive.controller().record.clone();
         let reply = drive.answer(command);
         let account = drive.account().clone();
         if let Some(reached) = reached.as_deref_mut() {
-            reached.count(command, &reply, &account);
+            reached.count(command, &before, &reply, &account);
         }
         let record = drive.answer(&give_record);
         expected.clear();

@@ -1,5 +1,6 @@
 //! The comparison of the library with another drive on a pipe: replies and, after every call, the record.
 
+mod ceem_cases;
 mod difference;
 mod directed;
 mod numbers;

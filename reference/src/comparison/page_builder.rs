@@ -1,7 +1,7 @@
 //! Set Data Encryption pages and status pages as the comparison sends them, and edits that damage them.
 
 use super::numbers::Numbers;
-use crate::codes::{decryption, encryption, scope};
+use crate::codes::{ceem, decryption, encryption, scope};
 use crate::sizes::KEY_BYTES;
 
 /// The fields of a Set Data Encryption page in order; damage is done to its bytes.
@@ -53,6 +53,24 @@ impl SetPage {
     /// A PUBLIC page of 20 bytes.
     pub fn public(lock: bool) -> Self {
         SetPage { scope: scope::PUBLIC, lock, key: Vec::new(), ..SetPage::k() }
+    }
+
+    /// K with this scope and these modes, and its key only where they ask for one.
+    pub fn of_modes(scope: u8, encryption: u8, decryption: u8) -> Self {
+        let has_key = encryption == encryption::ENCRYPT || decryption >= decryption::DECRYPT;
+        let key = if has_key { SetPage::k().key } else { Vec::new() };
+        SetPage { scope, encryption, decryption, key, ..SetPage::k() }
+    }
+
+    /// The page of 02's request 2: "A certification lab sent CEEM 10b with decryption DISABLE". The rest is ours: ALL,
+    /// encryption DISABLE too, so no key, and nothing else set (byte 5 80h).
+    pub fn labs() -> Self {
+        SetPage {
+            lock: false,
+            ceem: ceem::REPORTS_EXTERNAL,
+            ckod: false,
+            ..SetPage::of_modes(scope::ALL, encryption::DISABLE, decryption::DISABLE)
+        }
     }
 
     /// A supplemental key for a set with this decryption mode.
@@ -111,17 +129,19 @@ pub enum Family {
     LocalEncrypt,
     AllEncrypt,
     LocalReadOnly,
+    AllWriteOnly,
     LocalWithoutKey,
     LocalSupplemental,
     AllSupplemental,
 }
 
 impl Family {
-    pub const EVERY: [Family; 7] = [
+    pub const EVERY: [Family; 8] = [
         Family::Public,
         Family::LocalEncrypt,
         Family::AllEncrypt,
         Family::LocalReadOnly,
+        Family::AllWriteOnly,
         Family::LocalWithoutKey,
         Family::LocalSupplemental,
         Family::AllSupplemental,
@@ -134,6 +154,7 @@ impl Family {
             Family::LocalEncrypt => SetPage::k(),
             Family::AllEncrypt => SetPage::all(),
             Family::LocalReadOnly => SetPage { encryption: encryption::DISABLE, ..SetPage::k_unlocked() },
+            Family::AllWriteOnly => SetPage { decryption: decryption::DISABLE, ..SetPage::all() },
             Family::LocalWithoutKey => SetPage {
                 encryption: encryption::EXTERNAL,
                 decryption: decryption::RAW,
@@ -189,6 +210,8 @@ impl Edit {
             Edit::Bits(4, 0x02, 0x02),
             Edit::Bits(4, 0x10, 0x10),
             Edit::Bits(5, 0x30, 0x10),
+            Edit::Bits(5, 0xC0, 0x80),
+            Edit::Bits(5, 0xC0, 0xC0),
             Edit::Turn(5, 0x08),
             Edit::Byte(6, 3),
             Edit::Byte(6, 1),

@@ -7,7 +7,7 @@ use super::session::{
     event, event_of, load, load_bytes, power_on, read, read_status, security_in, security_out,
     vendor_release, write, Session,
 };
-use crate::codes::{encryption, opening_key, scope};
+use crate::codes::{decryption, encryption, opening_key, scope};
 use crate::record_bytes::{self, COUNTER_BYTES, NEXUS_BYTES, PLACE_BYTES};
 use crate::sizes::{KEY_BYTES, NEXUSES, PLACES};
 use crate::stream::{kind, Command, Drive};
@@ -175,7 +175,7 @@ impl RandomSessions {
         let mut page = match self.numbers.below(10) {
             0..=6 => self.parameters(),
             7 | 8 => self.supplemental(nexus),
-            _ => SetPage { key: Vec::new(), ..SetPage::public(self.numbers.percent(50)) },
+            _ => self.public(),
         };
         if self.numbers.percent(3) {
             let length = self.numbers.pick(&[0, 1, 31, 33, 64]);
@@ -202,17 +202,25 @@ impl RandomSessions {
         self.protocol(command)
     }
 
-    /// The parameters of a new set.
+    /// A PUBLIC page of 20 bytes.
+    fn public(&mut self) -> SetPage {
+        let numbers = &mut self.numbers;
+        let (ceem, decryption) = (numbers.below(4) as u8, numbers.below(4) as u8);
+        SetPage { ceem, decryption, sdk: numbers.percent(50), ..SetPage::public(numbers.percent(50)) }
+    }
+
+    /// The parameters of a new set. Few have CEEM 10b or 11b with decryption DISABLE, since that is refused.
     fn parameters(&mut self) -> SetPage {
         let numbers = &mut self.numbers;
         let encryption = numbers.pick(&[0, 1, 2, 2, 2]);
         let decryption = numbers.below(4) as u8;
         let encrypts = encryption == encryption::ENCRYPT;
         let key = if encrypts || decryption >= 2 { numbers.bytes(KEY_BYTES) } else { Vec::new() };
+        let ceems = if decryption == decryption::DISABLE && numbers.percent(75) { 2 } else { 4 };
         SetPage {
             scope: numbers.pick(&[scope::LOCAL, scope::LOCAL, scope::LOCAL, scope::ALL]),
             lock: numbers.percent(50),
-            ceem: numbers.below(4) as u8,
+            ceem: numbers.below(ceems) as u8,
             rdmc: if encrypts { numbers.pick(&[0, 2, 3, 3]) } else { numbers.below(4) as u8 },
             sdk: false,
             ckod: numbers.percent(50),
@@ -241,6 +249,7 @@ impl RandomSessions {
         page.scope = scope;
         page.sdk = true;
         page.decryption = decryption;
+        page.ceem = self.numbers.below(4) as u8;
         page.rdmc = self.numbers.below(4) as u8;
         page.encryption = self.numbers.byte();
         page.key = self.numbers.bytes(KEY_BYTES);

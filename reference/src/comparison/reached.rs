@@ -1,8 +1,10 @@
 //! What the sessions came to, counted: a run that never came to something on the list fails.
 
+use super::ceem_cases::CeemCase;
 use super::report::kind_name;
 use crate::account::{Account, ReadCell, Rule};
 use crate::codes::{decryption, encryption};
+use crate::record::Record;
 use crate::set_page::PageRule;
 use crate::sizes::{PLACES, SUPPLEMENTAL_KEYS};
 use crate::status_page::StatusRule;
@@ -42,6 +44,7 @@ pub enum Item {
     ReadCell(ReadCell),
     ReadKind(u8),
     ReadKey(u8),
+    Ceem(CeemCase),
 }
 
 impl Item {
@@ -67,16 +70,17 @@ impl Item {
             Item::ReadCell(_) => "cells of the table of reads",
             Item::ReadKind(_) => "block kinds of reads",
             Item::ReadKey(_) => "keys of reads",
+            Item::Ceem(case) => case.group(),
         }
     }
 
-    /// Whether it is one of all the lengths, sizes or values of a field. They are the directed sessions' task,
-    /// and they are told by how many were reached.
+    /// Whether it is one of all the lengths, sizes or values of a field, or a cell of a table. They are the directed
+    /// sessions' task, and they are told by how many were reached.
     fn is_one_of_all_values(self) -> bool {
         matches!(
             self,
             Item::SetPageLength(_) | Item::StatusPageLength(_) | Item::LentSize(_) | Item::SetPageByte(..)
-        ) || matches!(self, Item::ReadCell(_) | Item::ReadKind(_) | Item::ReadKey(_))
+        ) || matches!(self, Item::ReadCell(_) | Item::ReadKind(_) | Item::ReadKey(_) | Item::Ceem(_))
     }
 }
 
@@ -103,6 +107,7 @@ impl fmt::Display for Item {
             Item::SetPageByte(byte, value) => write!(formatter, "byte {byte} {value:02X}h"),
             Item::ReadCell(cell) => write!(formatter, "{cell}"),
             Item::ReadKind(number) | Item::ReadKey(number) => write!(formatter, "{number}"),
+            Item::Ceem(case) => write!(formatter, "{case}"),
         }
     }
 }
@@ -159,8 +164,8 @@ pub struct Reached {
 }
 
 impl Reached {
-    /// Counts a call.
-    pub fn count(&mut self, command: &Command, reply: &Reply, account: &Account) {
+    /// Counts a call over the record before it.
+    pub fn count(&mut self, command: &Command, before: &Record, reply: &Reply, account: &Account) {
         self.calls += 1;
         let known = KIND_ANSWERS.iter().any(|&(kind, _)| kind == command.kind) || command.kind == 255;
         let kind = if known { command.kind } else { UNKNOWN };
@@ -180,6 +185,9 @@ impl Reached {
                 self.add(Item::Event { kind, releases: account.tells(Rule::Releases) });
             }
             _ => {}
+        }
+        for case in CeemCase::of(command, before, reply, account) {
+            self.add(Item::Ceem(case));
         }
         self.count_account(account);
     }
@@ -289,6 +297,7 @@ impl Reached {
         wanted.extend(table_of_reads().into_iter().map(Item::ReadCell));
         wanted.extend((0..=255).map(Item::ReadKind));
         wanted.extend((0..=255).map(Item::ReadKey));
+        wanted.extend(CeemCase::every().into_iter().map(Item::Ceem));
         wanted.sort();
         wanted
     }

@@ -73,6 +73,16 @@ pub fn mixed() -> Record {
     record
 }
 
+/// The record of many kinds of set, with nobody's unit attention pending.
+pub fn mixed_without_pending() -> Record {
+    let mut record = mixed();
+    for nexus in &mut record.nexuses {
+        nexus.changed_by_another_nexus = false;
+        nexus.changed_by_vendor_event = false;
+    }
+    record
+}
+
 /// A record with place 0 used though no nexus is ALL, and two places of LOCAL sets.
 pub fn without_all_nexus() -> Record {
     let mut record = mixed();

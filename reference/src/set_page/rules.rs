@@ -1,7 +1,7 @@
-//! The rules of 01 that a Set Data Encryption page can break.
+//! The rules of 01 and 02 that a Set Data Encryption page can break.
 
 use super::{Sender, HEADER_BYTES};
-use crate::codes::{decryption, encryption, page_code, scope, ALGORITHM};
+use crate::codes::{ceem, decryption, encryption, page_code, scope, ALGORITHM};
 use crate::descriptors::{read_list, DescriptorRule};
 use crate::sizes::KEY_BYTES;
 
@@ -14,6 +14,7 @@ pub enum PageRule {
     Scope,
     ReservedBitsOfByte4,
     RdmcUnderEncrypt,
+    CeemWithDecryptionDisable,
     EncryptionMode,
     DecryptionMode,
     AlgorithmIndex,
@@ -42,6 +43,7 @@ impl PageRule {
             PageRule::Scope,
             PageRule::ReservedBitsOfByte4,
             PageRule::RdmcUnderEncrypt,
+            PageRule::CeemWithDecryptionDisable,
             PageRule::EncryptionMode,
             PageRule::DecryptionMode,
             PageRule::AlgorithmIndex,
@@ -89,7 +91,7 @@ impl Found {
     }
 }
 
-/// Every rule of 01 that the page breaks. While a length rule is broken no field is read.
+/// Every rule of 01 and 02 that the page breaks. While a length rule is broken no field is read.
 pub fn broken_rules(page: &[u8], sender: Sender) -> Vec<Broken> {
     let lengths = broken_lengths(page);
     if !lengths.is_empty() {
@@ -124,6 +126,10 @@ fn parameters(page: &[u8], found: &mut Found) {
     common_fields(page, found);
     let encrypts = page[6] == encryption::ENCRYPT;
     found.holds(PageRule::RdmcUnderEncrypt, 5, !(encrypts && (page[5] >> 4) & 3 == 1));
+    // 02, request 2: "CEEM 10b or 11b with decryption mode DISABLE is an invalid field. Amend 01: for LOCAL and ALL
+    // with SDK 0 that is answer 8. Our algorithm has EAREM set."; request 6: "request 2's CEEM to 5".
+    let ceem_checks = matches!(page[5] >> 6, ceem::REPORTS_EXTERNAL | ceem::REPORTS_ENCRYPT);
+    found.holds(PageRule::CeemWithDecryptionDisable, 5, !(ceem_checks && page[7] == decryption::DISABLE));
     found.holds(PageRule::EncryptionMode, 6, page[6] <= encryption::ENCRYPT);
     found.holds(PageRule::DecryptionMode, 7, page[7] <= decryption::MIXED);
     // 01: "Key length is 32 where encryption is 2 or decryption is 2 or 3, otherwise 0 (house)."

@@ -1,14 +1,7 @@
 //! The number of the faulty byte: the lowest byte at which a rule breaks.
 
-use crate::given::{after_p2, descriptor, k, k_but, k_with};
+use crate::given::{after_p2, descriptor, faulty_byte, k, k_but, k_with};
 use reference::record::Record;
-use reference::set_page::{check, Sender};
-
-/// The faulty byte of a page from a nexus of a record.
-fn faulty(page: &[u8], record: &Record, nexus: usize) -> Option<usize> {
-    let sender = Sender { scope: record.nexuses[nexus].scope, set: record.selected_set(nexus) };
-    check(page, sender).expect_err("the page is refused").faulty_byte()
-}
 
 #[test]
 fn whole_fields_point_to_their_first_byte() {
@@ -18,6 +11,9 @@ fn whole_fields_point_to_their_first_byte() {
         (&[(4, 0x61)], 4),
         (&[(4, 0x23)], 4),
         (&[(5, 0x10)], 5),
+        (&[(5, 0x80), (7, 0)], 5),
+        (&[(5, 0xC4), (7, 0), (6, 9), (8, 9)], 5),
+        (&[(5, 0xC4), (7, 0), (4, 0x23)], 4),
         (&[(6, 9)], 6),
         (&[(7, 9)], 7),
         (&[(8, 9)], 8),
@@ -29,11 +25,11 @@ fn whole_fields_point_to_their_first_byte() {
         (&[(19, 200)], 18),
         (&[(19, 200), (10, 1)], 10),
     ] {
-        assert_eq!(faulty(&k_but(changes), &record, 3), Some(byte));
+        assert_eq!(faulty_byte(&k_but(changes), &record, 3), Some(byte));
     }
     let mut cut = k()[..40].to_vec();
     cut[3] = 36;
-    assert_eq!(faulty(&cut, &record, 3), Some(18));
+    assert_eq!(faulty_byte(&cut, &record, 3), Some(18));
 }
 
 #[test]
@@ -54,25 +50,25 @@ fn descriptors() {
         ([fine.clone(), descriptor(1, &[1; 13])].concat(), 64),
         ([fine.clone(), vec![1, 1, 0, 1, 9]].concat(), 63),
     ] {
-        assert_eq!(faulty(&k_with(&list), &record, 3), Some(byte));
+        assert_eq!(faulty_byte(&k_with(&list), &record, 3), Some(byte));
     }
     let mut without_encrypt = k_with(&fine);
     without_encrypt[6] = 0;
-    assert_eq!(faulty(&without_encrypt, &record, 3), Some(52));
+    assert_eq!(faulty_byte(&without_encrypt, &record, 3), Some(52));
 }
 
 #[test]
 fn supplemental_keys() {
     let record = after_p2().record;
-    assert_eq!(faulty(&k_but(&[(5, 8), (4, 0x40), (7, 3)]), &record, 3), Some(4));
-    assert_eq!(faulty(&k_but(&[(5, 8), (7, 3)]), &record, 3), Some(7));
-    assert_eq!(faulty(&k_but(&[(5, 8), (19, 31)]), &record, 3), Some(18));
+    assert_eq!(faulty_byte(&k_but(&[(5, 8), (4, 0x40), (7, 3)]), &record, 3), Some(4));
+    assert_eq!(faulty_byte(&k_but(&[(5, 8), (7, 3)]), &record, 3), Some(7));
+    assert_eq!(faulty_byte(&k_but(&[(5, 8), (19, 31)]), &record, 3), Some(18));
     let mut longer = k_with(&[0]);
     longer[5] = 8;
-    assert_eq!(faulty(&longer, &record, 3), Some(52));
+    assert_eq!(faulty_byte(&longer, &record, 3), Some(52));
 }
 
 #[test]
 fn a_wrong_length_has_no_faulty_byte() {
-    assert_eq!(faulty(&k()[..51], &Record::power_on(), 3), None);
+    assert_eq!(faulty_byte(&k()[..51], &Record::power_on(), 3), None);
 }

@@ -2,6 +2,8 @@
 
 use reference::answer::Refused;
 use reference::controller::Controller;
+use reference::record::Record;
+use reference::set_page::{broken_rules, check, PageRule, Sender};
 
 pub const PROTOCOL: u8 = 0x20;
 pub const SET_PAGE: u16 = 0x0010;
@@ -43,6 +45,21 @@ pub fn without_key(bytes: [u8; 4]) -> Vec<u8> {
 /// A descriptor in order.
 pub fn descriptor(kind: u8, data: &[u8]) -> Vec<u8> {
     [&[kind, 0, 0, data.len() as u8], data].concat()
+}
+
+/// What the page's check reads of a record for a nexus.
+fn sender(record: &Record, nexus: usize) -> Sender<'_> {
+    Sender { scope: record.nexuses[nexus].scope, set: record.selected_set(nexus) }
+}
+
+/// The rules a page breaks when it comes from a nexus of a record.
+pub fn broken(page: &[u8], record: &Record, nexus: usize) -> Vec<PageRule> {
+    broken_rules(page, sender(record, nexus)).into_iter().map(|broken| broken.rule).collect()
+}
+
+/// The faulty byte of a page from a nexus of a record.
+pub fn faulty_byte(page: &[u8], record: &Record, nexus: usize) -> Option<usize> {
+    check(page, sender(record, nexus)).expect_err("the page is refused").faulty_byte()
 }
 
 /// OUT of a Set Data Encryption page.

@@ -1,8 +1,9 @@
-//! Tests of the reference against document 01, and request 1 of document 02.
+//! Tests of the reference against document 01, and requests 1 and 2 of document 02.
 
 #![forbid(unsafe_code)]
 
 mod answers;
+mod ceem;
 mod events;
 mod examples;
 mod faulty_byte;

@@ -1,18 +1,12 @@
 //! The Set Data Encryption page: what is taken, and each rule broken alone.
 
-use crate::given::{after_p2, descriptor, k, k_but, k_with, send, without_key};
+use crate::given::{after_p2, broken, descriptor, k, k_but, k_with, send, without_key};
 use reference::answer::Refused;
 use reference::codes::scope;
 use reference::controller::Controller;
 use reference::descriptors::DescriptorRule;
 use reference::record::{Record, Set};
-use reference::set_page::{broken_rules, PageRule, Sender};
-
-/// The rules a page breaks when it comes from a nexus of a record.
-fn broken(page: &[u8], record: &Record, nexus: usize) -> Vec<PageRule> {
-    let sender = Sender { scope: record.nexuses[nexus].scope, set: record.selected_set(nexus) };
-    broken_rules(page, sender).into_iter().map(|broken| broken.rule).collect()
-}
+use reference::set_page::PageRule;
 
 #[test]
 fn each_rule_of_parameters_alone() {
@@ -27,6 +21,7 @@ fn each_rule_of_parameters_alone() {
         (k_but(&[(4, 0x60)]), PageRule::Scope),
         (k_but(&[(4, 0x31)]), PageRule::ReservedBitsOfByte4),
         (k_but(&[(5, 0x10)]), PageRule::RdmcUnderEncrypt),
+        (k_but(&[(5, 0x84), (7, 0)]), PageRule::CeemWithDecryptionDisable),
         (k_but(&[(6, 3)]), PageRule::EncryptionMode),
         (k_but(&[(7, 4)]), PageRule::DecryptionMode),
         (k_but(&[(8, 2)]), PageRule::AlgorithmIndex),

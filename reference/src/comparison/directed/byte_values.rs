@@ -2,9 +2,8 @@
 
 use crate::codes::scope;
 use crate::comparison::page_builder::{descriptor, Edit, Family, SetPage};
-use crate::comparison::record_builder::mixed;
+use crate::comparison::record_builder::mixed_without_pending;
 use crate::comparison::session::{security_out, Sink, Stage};
-use crate::record::Record;
 
 pub fn sessions(sink: &mut Sink) {
     bytes_4_to_10(sink);
@@ -13,19 +12,9 @@ pub fn sessions(sink: &mut Sink) {
     key_lengths(sink);
 }
 
-/// The record of many kinds of set, with nobody's unit attention pending.
-fn record() -> Record {
-    let mut record = mixed();
-    for nexus in &mut record.nexuses {
-        nexus.changed_by_another_nexus = false;
-        nexus.changed_by_vendor_event = false;
-    }
-    record
-}
-
 /// Every value of each byte in a page of each family, from a PUBLIC, a LOCAL and the ALL nexus.
 fn bytes_4_to_10(sink: &mut Sink) {
-    let mut stage = Stage::new("values of bytes 4 to 10", record(), sink);
+    let mut stage = Stage::new("values of bytes 4 to 10", mixed_without_pending(), sink);
     for (number, family) in Family::EVERY.into_iter().enumerate() {
         for byte in 4..=10 {
             for value in 0..=255u8 {
@@ -45,7 +34,7 @@ fn bytes_4_to_10(sink: &mut Sink) {
 
 /// Every mixture of modes with each RDMC, with and without key and list.
 fn modes(sink: &mut Sink) {
-    let mut stage = Stage::new("modes, RDMC, key and list", record(), sink);
+    let mut stage = Stage::new("modes, RDMC, key and list", mixed_without_pending(), sink);
     for encryption in 0..4 {
         for decryption in 0..5 {
             for rdmc in 0..4 {
@@ -68,7 +57,7 @@ fn modes(sink: &mut Sink) {
 /// Supplemental keys of each scope and mode for a set of each mode.
 fn supplemental_modes(sink: &mut Sink) {
     for mode in 0..4 {
-        let mut record = record();
+        let mut record = mixed_without_pending();
         record.places[0].decryption = mode;
         record.places[2].decryption = mode;
         let mut stage = Stage::new("modes of supplemental keys", record, sink);
@@ -88,7 +77,7 @@ fn supplemental_modes(sink: &mut Sink) {
 
 /// Key lengths around 0 and 32, the page's bytes as they should be and as the length says.
 fn key_lengths(sink: &mut Sink) {
-    let mut stage = Stage::new("key lengths", record(), sink);
+    let mut stage = Stage::new("key lengths", mixed_without_pending(), sink);
     for family in Family::EVERY {
         let sender = if family == Family::AllSupplemental { 9 } else { 3 };
         for length in (0..=70).chain([0x0100, 0x0120, 0x2000, 0x7FFF, 0xFFEC, 0xFFFF]) {

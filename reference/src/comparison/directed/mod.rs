@@ -2,6 +2,7 @@
 
 mod buffers;
 mod byte_values;
+mod ceem;
 mod descriptors;
 mod events;
 mod examples;
@@ -35,4 +36,5 @@ pub fn sessions(sink: &mut Sink) {
     status::sessions(sink);
     records::sessions(sink);
     page_rules::sessions(sink);
+    ceem::sessions(sink);
 }

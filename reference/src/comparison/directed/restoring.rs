@@ -33,8 +33,7 @@ fn reads(nexus: u8) -> Vec<Command> {
 
 /// A page of these modes, with a key where it needs one.
 fn page(scope: u8, lock: bool, encryption: u8, decryption: u8) -> SetPage {
-    let key = if encryption == 2 || decryption >= 2 { SetPage::k().key } else { Vec::new() };
-    SetPage { scope, lock, encryption, decryption, key, ..SetPage::k() }
+    SetPage { lock, ..SetPage::of_modes(scope, encryption, decryption) }
 }
 
 /// What 02's request 1 names: P7 and P8 with reads, a supplemental key before and after, RAW without ENCRYPT.
