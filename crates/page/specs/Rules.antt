@@ -1,4 +1,4 @@
--- Document 01, "The Set Data Encryption page (0010h)": its rules. p is the page, a list of bytes.
+-- Document 01, "The Set Data Encryption page (0010h)": its rules, with request 2 of document 02. p is the page, a list of bytes.
 -- A rule names the byte that a fault points to; the rules stand in the order of the bytes.
 use Prim.Native.Nat.{ℕ}
 use mathlib.Core.Bool.{Bool, not, _&&_, _||_}
