@@ -103,20 +103,20 @@ refusal-due s (Acting n) AnotherCleared = tt
 refusal-due s (Acting n) VendorCleared = tt
 refusal-due s (Acting n) Registered = tt
 
--- a page that is carried out has passed every check
-taken-due : (s : State) (command : Command) (page : List ℕ) → isDone (answer s (securityOut command page)) ≡ true → Taken s (command .nexus) (pageChecked s (command .nexus) page .page)
+-- a page that is carried out has passed every check: its sender is one of the nexuses, its own check found no fault, nor did check 10
+pub out-passed : (s : State) (command : Command) (page : List ℕ) → isDone (answer s (securityOut command page)) ≡ true → let read = pageChecked s (command .nexus) page in
+    (command .nexus < length (s .nexuses)) × ((read .answer ≡ Done) × (noPlace s (command .nexus) (read .page) ≡ false))
 unfolding answer checks
-taken-due s command page e =
+out-passed s command page e =
     let read = pageChecked s (command .nexus) page in
     let all = all-done (recordCheck s (securityOut command page) ∷ (commandedOf s command (isOutPage (command .code)) ++ read .answer ∷ check10 s (command .nexus) (read .page) ∷ [])) e in
     let rest = all .1 .1 .1 .1 .1 .1 in
-    record {
-      bytes = page;
-      within = leb-false (length (s .nexuses)) (command .nexus) (passed _ NexusAbove refl (all .1 .0));
-      read = refl;
-      found = done-is _ (rest .0);
-      placed = passed _ NoPlaceForLocal refl (rest .1 .0);
-    }
+    (leb-false (length (s .nexuses)) (command .nexus) (passed _ NexusAbove refl (all .1 .0)), (done-is _ (rest .0), passed _ NoPlaceForLocal refl (rest .1 .0)))
+
+taken-due : (s : State) (command : Command) (page : List ℕ) → isDone (answer s (securityOut command page)) ≡ true → Taken s (command .nexus) (pageChecked s (command .nexus) page .page)
+taken-due s command page e =
+    let h = out-passed s command page e in
+    record { bytes = page; within = h .0; read = refl; found = h .1 .0; placed = h .1 .1 }
 
 -- a call that is carried out
 doing-due : (s : State) (call : Call) → isDone (answer s call) ≡ true → Due s (doing s call)
@@ -271,7 +271,7 @@ nexuses-size : (s x : State) → length (x .nexuses) ≡ length (s .nexuses) →
 nexuses-size s x n p = record { nexuses = n; places = ap length p }
 
 -- marks changed
-changes-size : (s : State) (n : ℕ) (change : Change) → SameSize s (changes s n change)
+pub changes-size : (s : State) (n : ℕ) (change : Change) → SameSize s (changes s n change)
 unfolding changes
 changes-size s n change = nexuses-size s _ (length-set (s .nexuses) n _) refl
 

@@ -8,4 +8,5 @@ pub mod RestoringTable
 pub mod CeemTable
 pub mod Same
 pub mod Seen
+pub mod Sending
 pub mod Table

@@ -27,7 +27,7 @@ use Rattle.drive.specs.Effects.{Effect, nothing, marks, takes, clears, releasin
 use Rattle.drive.specs.After.{actionsOf, changedBy, Telling, carriedOut}
 use Rattle.drive.proofs.Effects.{isRestart}
 use Rattle.history.specs.History.{accepts, placeNumber}
-use Rattle.history.proofs.Left.{taken-whole}
+use Rattle.places.proofs.Sender.{taken-whole}
 use Rattle.history.proofs.Numbers.{Fits, Sound, acts-sound, anew, effect-sound}
 use Rattle.history.proofs.Held.{Mark, View, view, Held, hitBy, acts-held}
 use Rattle.history.proofs.Others.{Unseen, changes-unseen, flagged-unseen, other-unseen, other-lock, other-foreign}

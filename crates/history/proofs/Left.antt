@@ -1,11 +1,11 @@
 -- What an effect leaves of the sets and the counter: what its actions leave.
 -- Assumes nothing.
 use Prim.Native.Nat.{ℕ}
-use mathlib.Core.Bool.{Bool, true, false}
-use mathlib.Core.List.{[], map}
+use mathlib.Core.Bool.{Bool, false}
+use mathlib.Core.List.{map}
 use mathlib.Core.Path.{_≡_, refl, sym, _∙_, ap}
 use lib.Seq.{map-set-same}
-use Rattle.arrays.proofs.Base.{cases, clash, if-true, if-false}
+use Rattle.arrays.proofs.Base.{cases, clash}
 use Rattle.page.specs.declared.Page.{Page}
 use Rattle.device.specs.Record.{State, setAt, noSet}
 use Rattle.device.specs.Updates.{withSupplemental}
@@ -16,26 +16,12 @@ use Rattle.marks.specs.Marks.{changes, flagged}
 use Rattle.marks.specs.Reset.{cleared}
 use Rattle.marks.specs.declared.Actor.{Actor}
 use Rattle.places.specs.Actions.{acts, pageActions, senderAfter, appended, supplemented, taken}
+use Rattle.places.proofs.Sender.{supplemental-actions, taken-supplemental, taken-whole}
 use Rattle.drive.specs.Effects.{Effect, nothing, marks, takes, clears, releasing, restarts}
 use Rattle.drive.specs.After.{actionsOf, changedBy, Telling, carriedOut}
 use Rattle.drive.proofs.Effects.{isRestart}
 
 -- ---- a page
-
--- a supplemental key does nothing to the places
-pub supplemental-actions : (s : State) (n : ℕ) (page : Page) → page .supplemental ≡ true → pageActions s n page ≡ []
-unfolding pageActions
-supplemental-actions s n page e = if-true _ _ _ e
-
--- how it is taken
-pub taken-supplemental : (s : State) (n : ℕ) (page : Page) → page .supplemental ≡ true → taken s n page ≡ supplemented s n page
-unfolding taken
-taken-supplemental s n page e = if-true _ _ _ e
-
--- and any other page
-pub taken-whole : (s : State) (n : ℕ) (page : Page) → page .supplemental ≡ false → taken s n page ≡ senderAfter (acts s (pageActions s n page)) n page
-unfolding taken
-taken-whole s n page e = if-false _ _ _ e
 
 -- the counter
 taken-counter : (s : State) (n : ℕ) (page : Page) → taken s n page .counter ≡ acts s (pageActions s n page) .counter

@@ -29,7 +29,7 @@ use Rattle.drive.specs.Calls.{read}
 use Rattle.drive.specs.declared.Block.{Block}
 use Rattle.drive.proofs.Restoring.{read-leaves}
 use Rattle.history.specs.History.{hits, Establishes}
-use Rattle.history.proofs.Left.{supplemental-actions}
+use Rattle.places.proofs.Sender.{supplemental-actions}
 
 -- a read is none
 pub read-no-action : (s : State) (n : ℕ) (block : Block) → actions s (read n block) ≡ []

@@ -33,7 +33,8 @@ use Rattle.drive.specs.Effects.{Effect, nothing, marks, takes, clears, releasin
 use Rattle.drive.specs.After.{actionsOf, changedBy, Telling, carriedOut}
 use Rattle.drive.proofs.Effects.{isRestart}
 use Rattle.history.specs.History.{accepts, placeNumber}
-use Rattle.history.proofs.Left.{told-same, supplemented-same, supplemental-actions, taken-supplemental, taken-whole}
+use Rattle.places.proofs.Sender.{supplemental-actions, taken-supplemental, taken-whole}
+use Rattle.history.proofs.Left.{told-same, supplemented-same}
 use Rattle.history.proofs.Held.{View, view, Foreign, acts-nexuses}
 
 -- nexus n sees no change

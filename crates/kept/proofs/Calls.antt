@@ -66,10 +66,11 @@ set-fit page x = record {
   codes = ranges-good (page .fields) (record { encryption = x .encryption; decryption = x .decryption; index = omega (arith, x .index); ceem = x .ceem; lengths = good-lengths (x .kads) });
   index = x .index;
   tails = good-tails (x .kads);
+  paired = x .paired;
 }
 
 -- what crate page guarantees of an accepted page is what crate places asks
-page-fit : (s : State) (n : ℕ) (page : Page) → effects.Taken s n page → Fit s n page
+pub page-fit : (s : State) (n : ℕ) (page : Page) → effects.Taken s n page → Fit s n page
 page-fit s n page t =
     let place : page .supplemental ≡ false → page .scope ≡ localScope → room s n ≡ NoRoom → ⊥ =
     λ f l. room-there (page .supplemental) (eqb (page .scope) localScope) (room s n) (t .placed) f (eq-eqb _ _ l) in

@@ -20,6 +20,7 @@ use Rattle.parameters.specs.Codes.{localScope, allScope}
 use Rattle.parameters.specs.Fields.{keySize, supplementalMost}
 use Rattle.parameters.specs.Good.{fieldCodes, keysPast}
 use Rattle.parameters.specs.declared.Fields.{Fields}
+use Rattle.page.specs.Rules.{ceemWrong}
 use Rattle.page.specs.declared.Page.{Page}
 use Rattle.device.specs.Record.{State, setAt, nexusAt, noSet, newNexus, empty, used, established}
 use Rattle.device.specs.Selecting.{owns, ownedPlace, selected, selectedSet}
@@ -82,11 +83,12 @@ mark-kept n f s e =
 
 -- ---- what an accepted page brings
 
--- fields that make a set: codes in range, index 1, zeros past the lengths
+-- fields that make a set: codes in range, index 1, zeros past the lengths, CEEM as request 2 has it
 pub record SetFit (fields : Fields) : Type 0 where
   pub codes : fieldCodes fields ≡ true
   pub index : fields .index ≡ 1
   pub tails : tailsGood (fields .kads) ≡ true
+  pub paired : ceemWrong (fields .ceem) (fields .decryption) ≡ false
 
 -- a supplemental key: the nexus's scope is the page's, LOCAL or ALL, and its set has fewer than 4 keys already
 pub record KeyFit (s : State) (n : ℕ) (page : Page) : Type 0 where
@@ -170,13 +172,13 @@ module _ (s : State) (w : wellFormed s ≡ true) (n : ℕ) where
       (λ f. none (owns-none f))
 
 -- the place is one of those for LOCAL sets, and the nexus owns no other
-record Vacant (s : State) (n place : ℕ) : Type 0 where
-  within : place < length (s .sets)
+pub record Vacant (s : State) (n place : ℕ) : Type 0 where
+  pub within : place < length (s .sets)
   later : 0 < place
   others : held n s ≡ bit (owns n (setAt s place))
 
 -- what a place for nexus n's LOCAL set is
-abbrev RoomFit : State → ℕ → Room → Type 0
+abbrev pub RoomFit : State → ℕ → Room → Type 0
 RoomFit s n (Free place) = Vacant s n place
 RoomFit s n (Evicting place) = (Vacant s n place) × (held n s ≡ 0)
 RoomFit s n NoRoom = Unit
@@ -205,7 +207,7 @@ module _ (s : State) (w : wellFormed s ≡ true) (n : ℕ) where
           (λ o. o)
 
   -- a place for the nexus's LOCAL set is what it should be
-  room-fit : RoomFit s n (room s n)
+  pub room-fit : RoomFit s n (room s n)
   unfolding room
   room-fit =
       own-by s w n (λ f. RoomFit s n (freeAt f (freeAt (find At Nowhere emptyLocal (s .sets)) (evictingAt (find At Nowhere (unlockedLocal s) (s .sets))))))

@@ -3,3 +3,5 @@ pub mod Freed
 pub mod Kept
 pub mod Calls
 pub mod Runs
+pub mod Brought
+pub mod Sent

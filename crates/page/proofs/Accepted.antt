@@ -1,12 +1,12 @@
 -- What is known of an accepted page: a PUBLIC one, one with a supplemental key, or one that makes a set.
 -- Assumes nothing.
 use mathlib.Core.Path.{_≡_, refl, ap}
-use mathlib.Core.Bool.{Bool, true, false}
+use mathlib.Core.Bool.{Bool, true, false, not, _&&_}
 use mathlib.Core.Logic.{_⊎_, inl, inr}
 use mathlib.Core.List.{List}
 use Prim.Native.Nat.{ℕ, _+_, _<_, _≤_}
 use native.Mathlib.Omega.{arith}
-use borrow.Author.Tests.{eqb-true, eqb-false, leb-true, leb-false, ltb-false}
+use borrow.Author.Tests.{eqb-true, eqb-false, leb-true, leb-false, ltb-false, not-true}
 use lib.Dec.{ltb, leb, eqb}
 use lib.ListN.{length, take, drop}
 use Rattle.arrays.specs.Base.{if_then_else_}
@@ -23,9 +23,9 @@ use Rattle.kad.specs.declared.Seen.the-variants.{Nothing}
 use Rattle.kad.proofs.Good.{Good, good-none, good-listed}
 use Rattle.parameters.specs.Codes.{encrypts, decrypts}
 use Rattle.parameters.specs.Fields.{keySize, onlyKey, noFields, supplementalMost}
-use Rattle.page.specs.Fields.{keyFrom, scopeOf, isPublic, sdkOf, encryptionOf, decryptionOf, indexOf, keyLengthOf, keyEnd, listOf, listedOf}
-use Rattle.page.specs.Rules.{openRules, modeRules, plainRules, setRules, matchRules, supplementalRules}
-use Rattle.page.specs.Check.{refusedPage, publicPage, supplementalPage, setPage, checked}
+use Rattle.page.specs.Fields.{keyFrom, scopeOf, isPublic, ceemOf, rdmcOf, sdkOf, encryptionOf, decryptionOf, indexOf, keyLengthOf, keyEnd, listOf, listedOf}
+use Rattle.page.specs.Rules.{openRules, ceemWrong, modeRules, plainRules, setRules, matchRules, supplementalRules}
+use Rattle.page.specs.Check.{refusedPage, publicPage, supplementalPage, setSaid, setPage, checked}
 use Rattle.page.specs.declared.Page.{Page}
 use Rattle.page.specs.declared.Checked.{Checked}
 use Rattle.page.proofs.Parts.{two-or-three, open-under, set-hold, supplemental-hold}
@@ -60,6 +60,7 @@ pub record IsSet (page : Page) : Type 0 where
   pub decryption : page .fields .decryption ≤ 3
   pub index : page .fields .index ≡ 1
   pub ceem : page .fields .ceem ≤ 3
+  pub paired : ceemWrong (page .fields .ceem) (page .fields .decryption) ≡ false
   pub sized : length (page .fields .key) ≡ keySize
   pub kads : Good (page .fields .kads)
 
@@ -79,6 +80,11 @@ encryption-known p h = leb-true _ _ (and-left (leb (encryptionOf p) 2) _ (held-a
 decryption-known : (p : List ℕ) → AllHold (modeRules p) → decryptionOf p ≤ 3
 unfolding modeRules
 decryption-known p h = leb-true _ _ (and-left (leb (decryptionOf p) 3) _ (held-at 7 (modeRules p) h))
+
+-- CEEM goes with it
+ceem-right : (p : List ℕ) → AllHold (modeRules p) → ceemWrong (ceemOf p) (decryptionOf p) ≡ false
+unfolding modeRules
+ceem-right p h = not-true _ (and-left _ _ (and-right (not (encrypts (encryptionOf p) && eqb (rdmcOf p) 1)) _ (held-at 5 (modeRules p) h)))
 
 -- the algorithm index is 1
 index-known : (p : List ℕ) → AllHold (plainRules p) → indexOf p ≡ 1
@@ -155,6 +161,7 @@ module _ (p : List ℕ) (long : keyFrom ≤ length p) (opens : AllHold (openRule
         decryption = decryption-known p (held .0);
         index = index-known p (held .1 .0);
         ceem = omega arith;
+        paired = ceem-right p (held .0);
         sized = length-padded keySize (take (keyLengthOf p) (drop keyFrom p));
         kads = list-good (encryptionOf p) (drop (keyEnd p) p);
       }))
@@ -175,3 +182,14 @@ accepted-page p scope mode count =
     let opens = kept (openRules p) n n (under-more (openRules p) 5 n (omega arith) (open-under p)) (ltb-false fault n t) in
     if-elim (λ (c : Checked). c .answer ≡ Done → P c) (isPublic p) (λ u d. inl (record { public = refl; fresh = refl; fields = refl }))
     (λ u. if-elim (λ (c : Checked). c .answer ≡ Done → P c) (sdkOf p) (λ v d. inr (inl (supplemental-accepted p long opens u scope mode count d))) (λ v d. inr (inr (set-accepted p long opens u d))))))
+
+-- An accepted page that is LOCAL or ALL with SDK 0 says what its bytes say.
+pub set-says : (p : List ℕ) (scope mode count : ℕ) → isPublic p ≡ false → sdkOf p ≡ false → checked p scope mode count .answer ≡ Done → checked p scope mode count .page ≡ setSaid p
+unfolding checked setPage
+set-says p scope mode count u v =
+    let n = length p in
+    let P : Checked → Type 0 = λ c. c .page ≡ setSaid p in
+    past-refusal P (lengthWrong keyFrom p) PageLengthWrong 0 _ (λ z. omega arith)
+    (λ e. past-refusal P (ltb (breach (openRules p) n) n) FieldWrong _ _ (λ z. omega arith)
+    (λ t. rw (u, v) (past-refusal P (ltb (breach (setRules p) n) n) FieldWrong _ _ (λ z. omega arith)
+    (λ k. past-refusal P (ltb (keyEnd p + listedOf p .good) n) FieldWrong _ _ (λ z. omega arith) (λ l d. refl)))))

@@ -1,18 +1,16 @@
 -- Pages of document 01 and what the check says of each, computed from their bytes.
-use Prim.Native.Nat.{ℕ, zero, suc, _*_}
+use Prim.Native.Nat.{ℕ, zero, suc}
 use mathlib.Core.Path.{_≡_, refl}
 use mathlib.Core.Bool.{Bool, true, false}
 use mathlib.Core.List.{List, [], _∷_, _++_, map}
 use lib.ListN.{length, take, replicate}
-use Rattle.arrays.specs.Base.{if_then_else_}
-use Rattle.wire.specs.Buffers.{padded}
 use Rattle.answer.specs.declared.Answer.the-variants.{PageLengthWrong, FieldWrong, FifthSupplementalKey}
 use Rattle.kad.specs.Kad.{noKads, kadsOf}
 use Rattle.kad.specs.Reading.{descriptorRules, listed}
 use Rattle.kad.specs.declared.Kads.{Kads}
 use Rattle.parameters.specs.Fields.{noFields, onlyKey}
 use Rattle.page.specs.Fields.{setByte4, setByte5, listOf}
-use Rattle.page.specs.Rules.{openRules, modeRules, plainRules, keyLength, keyRules, setRules, matchRules, endRules, supplementalRules}
+use Rattle.page.specs.Rules.{openRules, modeRules, plainRules, keyRules, setRules, matchRules, endRules, supplementalRules}
 use Rattle.page.specs.Check.{refusedPage, acceptedPage, publicPage, supplementalPage, setPage, checked}
 use Rattle.page.specs.declared.Checked.{Checked}
 
@@ -24,19 +22,19 @@ rising zero k = []
 rising (suc n) k = k ∷ rising n (suc k)
 
 -- a key
-abbrev key : List ℕ
+abbrev pub key : List ℕ
 key = rising 32 1
 
 -- the bytes after byte 3: bytes 4 to 7, bytes 8 to 17, the key with its length, and what stands after it
-abbrev body : ℕ → ℕ → ℕ → ℕ → List ℕ → List ℕ → List ℕ → List ℕ
+abbrev pub body : ℕ → ℕ → ℕ → ℕ → List ℕ → List ℕ → List ℕ → List ℕ
 body byte4 byte5 byte6 byte7 plain keyBytes rest = byte4 ∷ byte5 ∷ byte6 ∷ byte7 ∷ (plain ++ (0 ∷ length keyBytes ∷ (keyBytes ++ rest)))
 
 -- a page with page code and length before them
-abbrev page : List ℕ → List ℕ
+abbrev pub page : List ℕ → List ℕ
 page bytes = 0x00 ∷ 0x10 ∷ 0x00 ∷ length bytes ∷ bytes
 
 -- algorithm index, formats, and bytes 11 to 17
-abbrev plain : List ℕ
+abbrev pub plain : List ℕ
 plain = 1 ∷ 0 ∷ 0 ∷ replicate 7 0
 
 -- "Page K: 52 bytes, length 0030h, byte 4 21h, byte 5 44h, modes 2 and 2, index 1, key length 32, no descriptors"
@@ -97,23 +95,23 @@ supplemental byte4 byte7 rest = page (body byte4 0xFF 9 byte7 plain key rest)
 -- ---- what the check says of them
 
 -- a page, what is known of its nexus, and the outcome
-record Row : Type 0 where
-  page : List ℕ
-  scope : ℕ
-  mode : ℕ
-  count : ℕ
-  outcome : Checked
+pub record Row : Type 0 where
+  pub page : List ℕ
+  pub scope : ℕ
+  pub mode : ℕ
+  pub count : ℕ
+  pub outcome : Checked
 
 -- from a nexus at power-on
-abbrev first : List ℕ → Checked → Row
+abbrev pub first : List ℕ → Checked → Row
 first p outcome = record { page = p; scope = 0; mode = 0; count = 0; outcome = outcome }
 
 -- from a LOCAL nexus whose set decrypts and has so many supplemental keys
-abbrev next : ℕ → List ℕ → Checked → Row
+abbrev pub next : ℕ → List ℕ → Checked → Row
 next count p outcome = record { page = p; scope = 1; mode = 2; count = count; outcome = outcome }
 
 -- a set with its scope, lock, CEEM, CKOD and modes
-abbrev setWith : ℕ → Bool → ℕ → Bool → ℕ → ℕ → List ℕ → Kads → Checked
+abbrev pub setWith : ℕ → Bool → ℕ → Bool → ℕ → ℕ → List ℕ → Kads → Checked
 setWith scope lock ceem ckod encryption decryption keyBytes kads = acceptedPage (record {
   scope = scope;
   lock = lock;
@@ -137,11 +135,11 @@ abbrev set : ℕ → ℕ → List ℕ → Kads → Checked
 set = setWith 1 true 1 true
 
 -- a supplemental key
-abbrev appended : Checked
+abbrev pub appended : Checked
 appended = acceptedPage (record { scope = 1; lock = false; supplemental = true; fields = onlyKey key })
 
 -- a PUBLIC page
-abbrev public : Bool → Checked
+abbrev pub public : Bool → Checked
 public lock = acceptedPage (record { scope = 0; lock = lock; supplemental = false; fields = noFields })
 
 -- pages that are accepted
@@ -216,7 +214,7 @@ refusals =
     ∷ []
 
 -- what the definition gives
-abbrev computed : Row → Checked
+abbrev pub computed : Row → Checked
 computed r = checked (r .page) (r .scope) (r .mode) (r .count)
 
 -- it accepts the first
@@ -233,71 +231,3 @@ refusals-computed = refl
 rdmd-told : checked (k5 0x74) 0 0 0 .page .fields .rdmd ≡ true
 unfolding checked publicPage supplementalPage setPage openRules modeRules plainRules keyRules setRules matchRules endRules supplementalRules listOf listed descriptorRules
 rdmd-told = refl
-
--- ---- document 02, request 2: "CEEM 10b or 11b with decryption mode DISABLE is an invalid field"
-
--- a page with its scope, CEEM and modes, and a key where the modes ask for one
-abbrev pair : ℕ → ℕ → ℕ → ℕ → List ℕ
-pair scope ceem encryption decryption =
-    page (body (scope * 32) (ceem * 64) encryption decryption plain (take (keyLength encryption decryption) key) [])
-
--- it is taken as it stands, or refused at byte 5
-abbrev paired : ℕ → ℕ → ℕ → Bool → ℕ → Row
-paired scope encryption ceem ok decryption =
-    first (pair scope ceem encryption decryption)
-    (if ok then setWith scope false ceem false encryption decryption (padded 32 (take (keyLength encryption decryption) key)) noKads else refusedPage FieldWrong 5)
-
--- each CEEM with DISABLE, RAW, DECRYPT and MIXED: is it taken?
-abbrev withEach : ℕ → ℕ → ℕ → Bool → Bool → Bool → Bool → List Row
-withEach scope encryption ceem disabled raw decrypted mixed =
-    let cell = paired scope encryption ceem in
-    cell disabled 0 ∷ cell raw 1 ∷ cell decrypted 2 ∷ cell mixed 3 ∷ []
-
-abbrev pairs : ℕ → ℕ → List Row
-pairs scope encryption =
-    withEach scope encryption 0 true true true true
-    ++ withEach scope encryption 1 true true true true
-    ++ withEach scope encryption 2 false true true true
-    ++ withEach scope encryption 3 false true true true
-
--- LOCAL and ALL, with encryption DISABLE, EXTERNAL and ENCRYPT
-abbrev allPairs : List Row
-allPairs = pairs 1 0 ++ pairs 1 1 ++ pairs 1 2 ++ pairs 2 0 ++ pairs 2 1 ++ pairs 2 2
-
--- the lab's page: 20 bytes, with its byte 4 and byte 5
-abbrev labPage : ℕ → ℕ → List ℕ
-labPage byte4 byte5 = 0x00 ∷ 0x10 ∷ 0x00 ∷ 0x10 ∷ byte4 ∷ byte5 ∷ 0x00 ∷ 0x00 ∷ 0x01 ∷ replicate 11 0x00
-
--- and others
-abbrev lab : List Row
-lab =
-    first (labPage 0x40 0x80) (refusedPage FieldWrong 5)
-    -- with every other bit of byte 5 but SDK, and with LOCK
-    ∷ first (labPage 0x41 0xB7) (refusedPage FieldWrong 5)
-    ∷ first (labPage 0x21 0xF7) (refusedPage FieldWrong 5)
-    -- with SDK 1, from a nexus whose set has DISABLE too: "byte 7 .. is 2 or 3"
-    ∷ record { page = labPage 0x40 0x88; scope = 2; mode = 0; count = 0; outcome = refusedPage FieldWrong 7 }
-    -- PUBLIC: "every other field, SDK included, is ignored"
-    ∷ first (labPage 0x00 0x80) (public false)
-    ∷ first (labPage 0x01 0xC0) (public true)
-    -- a supplemental key
-    ∷ next 0 (page (body 0x20 0x88 0 2 plain key [])) appended
-    ∷ next 0 (page (body 0x20 0xC8 0 2 plain key [])) appended
-    -- faults before byte 5 come first, and those after it don't
-    ∷ first (labPage 0x60 0x80) (refusedPage FieldWrong 4)
-    ∷ first (labPage 0x42 0x80) (refusedPage FieldWrong 4)
-    ∷ first (page (body 0x40 0x90 2 0 plain key [])) (refusedPage FieldWrong 5)
-    ∷ first (page (body 0x40 0x80 3 0 plain [] [])) (refusedPage FieldWrong 5)
-    ∷ first (page (body 0x40 0x80 2 0 plain [] [])) (refusedPage FieldWrong 5)
-    ∷ first (page (body 0x40 0x80 0 4 plain [] [])) (refusedPage FieldWrong 7)
-    ∷ []
-
--- all 16 pairs of CEEM and decryption mode, under each encryption mode, LOCAL and ALL
-pairs-computed : map computed allPairs ≡ map (λ (r : Row). r .outcome) allPairs
-unfolding checked publicPage supplementalPage setPage openRules modeRules plainRules keyRules setRules matchRules endRules supplementalRules listOf listed descriptorRules
-pairs-computed = refl
-
--- the lab's page, the same with SDK 1 and with PUBLIC, and its neighbours
-lab-computed : map computed lab ≡ map (λ (r : Row). r .outcome) lab
-unfolding checked publicPage supplementalPage setPage openRules modeRules plainRules keyRules setRules matchRules endRules supplementalRules listOf listed descriptorRules
-lab-computed = refl

@@ -40,6 +40,10 @@ supplementalPage p scope mode count =
     else if leb supplementalMost count then refusedPage FifthSupplementalKey 0
     else acceptedPage (record { scope = scopeOf p; lock = false; supplemental = true; fields = onlyKey (keyOf p) })
 
+-- what a page says that makes a set
+abbrev pub setSaid : List ℕ → Page
+setSaid p = record { scope = scopeOf p; lock = lockOf p; supplemental = false; fields = setFields p }
+
 -- LOCAL or ALL, SDK 0: the fixed part, then the descriptors, of which "the last ends with the page"
 unfoldable pub setPage : List ℕ → Checked
 setPage p =
@@ -47,7 +51,7 @@ setPage p =
     let end = keyEnd p + listedOf p .good in
     if ltb fault (length p) then refusedPage FieldWrong fault
     else if ltb end (length p) then refusedPage FieldWrong end
-    else acceptedPage (record { scope = scopeOf p; lock = lockOf p; supplemental = false; fields = setFields p })
+    else acceptedPage (setSaid p)
 
 -- "Answer 7: fewer than 20 bytes, or page length plus 4 isn't the byte count. Answer 8 in every other fault"
 unfoldable pub checked : List ℕ → ℕ → ℕ → ℕ → Checked

@@ -15,6 +15,10 @@ pub use Rattle.kad.proofs.RoundTrip.{read-of-written as kad-read-of-written, wr
 pub use Rattle.page.proofs.Lowest.{wrong-is-lowest, done-breaks-none, fifth-breaks-none}
 -- Document 02, request 2: a page is refused at byte 5 exactly where RDMC or CEEM is wrong.
 pub use Rattle.page.proofs.Byte5.{byte-5-due, byte-5-told}
+-- All its pairs, and the lab's page, from their bytes.
+pub use Rattle.page.proofs.CeemTable.{pairs-computed, lab-computed}
+-- Where none of answers 1 to 6 is due, a page's own check decides, and then check 10; so request 2 holds of every record and nexus.
+pub use Rattle.drive.proofs.Sending.{page-decides, ceem-refused}
 -- The same of the status reader: the faulty byte of answer 8 is the lowest at which a rule of the page breaks, and of a page that is read
 -- none breaks.
 pub use Rattle.status.proofs.Lowest.{status-lowest}
@@ -56,6 +60,10 @@ pub use Rattle.device.proofs.WellFormed.{power-on-well}
 pub use Rattle.kept.proofs.Runs.{since-power-on, never-1}
 -- Our single action frees "LOCAL there, or ALL for place 0", as document 01 words it.
 pub use Rattle.kept.proofs.Freed.{freed-as-worded}
+-- A page with SDK 0, LOCAL or ALL, that is done leaves its sender using the set that its bytes ask for.
+pub use Rattle.kept.proofs.Sent.{set-as-sent}
+-- Since power-on no place holds a set with CEEM 10b or 11b and decryption DISABLE.
+pub use Rattle.kept.proofs.Brought.{never-held}
 -- Records that agree but for their numbers give the same effect, the same actions and, but for numbers, the same record after.
 pub use Rattle.history.proofs.Bare.{same-but-numbers}
 -- Before the wrap a nexus is told by number exactly where its place differs or a call acted on it.

@@ -1,0 +1,29 @@
+-- A page that is sent is answered by its own check: so request 2 holds of every record, nexus and page.
+-- Assumes nothing.
+use mathlib.Core.Path.{_≡_, _∙_}
+use mathlib.Core.Logic.{inr}
+use mathlib.Core.List.{List, [], _∷_}
+use Prim.Native.Nat.{ℕ}
+use borrow.Author.Tests.{eq-eqb, lt-leb}
+use Rattle.answer.specs.declared.Answer.the-variants.{FieldWrong}
+use Rattle.page.specs.Byte5.{MakesSet, CeemFault}
+use Rattle.page.proofs.Byte5.{byte-5-told}
+use Rattle.device.specs.Record.{State}
+use Rattle.drive.specs.declared.Command.{Command}
+use Rattle.drive.specs.Calls.{securityOut}
+use Rattle.drive.specs.Checks.{firstOf, pageChecked, check10, checks, answer}
+use Rattle.drive.specs.Sending.{Reached}
+
+module _ (s : State) (command : Command) (reached : Reached s command) (page : List ℕ) where
+  -- Where none of answers 1 to 6 is due, the page's own check decides, and then check 10.
+  pub page-decides : let read = pageChecked s (command .nexus) page in
+      answer s (securityOut command page) ≡ firstOf (read .answer ∷ check10 s (command .nexus) (read .page) ∷ [])
+  unfolding answer checks
+  page-decides =
+      simp (reached .formed, lt-leb _ _ (reached .within), reached .another, reached .vendor, eq-eqb _ _ (reached .protocol), eq-eqb _ _ (reached .code))
+
+  -- A page that makes a set with CEEM 10b or 11b and decryption DISABLE is answered 8, whoever sends it.
+  pub ceem-refused : MakesSet page → CeemFault page → answer s (securityOut command page) ≡ FieldWrong
+  ceem-refused makes fault =
+      let told : pageChecked s (command .nexus) page .answer ≡ FieldWrong = byte-5-told page makes _ _ _ (inr fault) .0 in
+      page-decides ∙ rw told
