@@ -5,7 +5,7 @@ use Rattle.parameters.specs.Fields.{noSupplemental}
 use Rattle.page.specs.declared.Page.{Page}
 use Rattle.device.specs.declared.Set.{Set}
 
--- a set as nexus n's page asks for it: "owner", "scope", the page's fields, "supplemental keys start at none"
+-- a set as nexus n's page asks for it: the nexus's own, with the page's scope and fields; "supplemental keys start at none"
 pub record AsSent (n : ℕ) (page : Page) (set : Set) : Type 0 where
   pub owner : set .owner ≡ n
   pub scope : set .scope ≡ page .scope
