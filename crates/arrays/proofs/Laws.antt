@@ -10,8 +10,8 @@ use native.Mathlib.Omega.{arith}
 use native.Mathlib.Numerals.{add-one}
 use borrow.Author.Tests.{eqb-true, eqb-false, eq-eqb, ltb-true, ltb-false}
 use lib.Dec.{eqb, ltb}
-use lib.ListN.{length, getD, set, drop, length-map, List·getD-map}
-use lib.Seq.{sets, getD-set-same, getD-set-other, set-out, getD-drop, drop-drop, drop-set-lt}
+use lib.ListN.{length, getD, set, take, drop, length-map, List·getD-map}
+use lib.Seq.{sets, getD-set-same, getD-set-other, set-out, getD-drop, take-nil, drop-drop, drop-set-lt}
 use Rattle.arrays.specs.Base.{if_then_else_}
 use Rattle.arrays.specs.Arrays.{mapFrom, foldFrom, each, all, find}
 use Rattle.arrays.proofs.Base.{cases, and-left, and-right, if-elim, if-true, if-false}
@@ -206,3 +206,17 @@ module _ {A R : Type 0} (at : ℕ → R) (none : R) (p : A → Bool) where
     where
       over : (l : List A) → foldFrom (λ k b r. if b then at k else r) none 0 (map p l) ≡ find at none (λ k. p) l
       over l = foldFrom-map p (λ k b r. if b then at k else r) (λ k x r. if p x then at k else r) none (λ i x r. refl) 0 l
+
+-- ---- the first elements
+
+-- what is made of the first elements is the first of what is made
+pub map-take : {A B : Type 0} (f : A → B) (n : ℕ) (l : List A) → map f (take n l) ≡ take n (map f l)
+map-take f zero l = refl
+map-take f (suc n) [] = refl
+map-take {B = B} f (suc n) (x ∷ l) = ap {B = List B} (λ r. f x ∷ r) (map-take f n l)
+
+-- of the first elements without the first of them
+pub drop-take : {A : Type 0} (m n : ℕ) (l : List A) → drop m (take (m + n) l) ≡ take n (drop m l)
+drop-take zero n l = rw zero-add refl
+drop-take (suc m) n [] = rw (suc-add m n) (sym (take-nil n))
+drop-take (suc m) n (x ∷ l) = rw (suc-add m n) (drop-take m n l)

@@ -8,8 +8,10 @@ use borrow.Author.Tests.{leb-true}
 use lib.Dec.{leb, eqb}
 use Rattle.arrays.specs.Base.{if_then_else_}
 use Rattle.arrays.proofs.Base.{cases}
-use Rattle.command.specs.Kinds.{powerOnKind, inKind, outKind, writeKind, unitResetKind, readKind, readStatusKind, takeRecordKind, giveRecordKind, isEvent}
-use Rattle.command.specs.Requests.{commandOf, eventOf, lentMost, inOrder, flagMost, writeOrder, readOrder, toolOrder, orderOf, lentSize}
+use Rattle.calls.specs.Kinds.{powerOnKind, inKind, outKind, writeKind, unitResetKind, readKind, isEvent}
+use Rattle.calls.specs.Asking.{flagMost, supports, eventOf}
+use Rattle.command.specs.Kinds.{readStatusKind, takeRecordKind, giveRecordKind}
+use Rattle.command.specs.Requests.{requestCommand, lentMost, inOrder, writeOrder, readOrder, toolOrder, orderOf, lentSize}
 use Rattle.command.specs.declared.Request.{Request}
 use Rattle.command.specs.declared.Order.{Order}
 use Rattle.command.specs.declared.Order.the-variants.{Unknown, PowerOn, Out, Write, UnitReset, Happen, ReadStatus, TakeRecord, GiveRecord}
@@ -23,7 +25,7 @@ in-lends : (r : Request) → lentSize (inOrder r) ≤ lentMost
 in-lends r = cases (leb (r .length) lentMost) (λ t. rw t (leb-true _ _ t)) (λ f. rw f (omega arith))
 
 write-lends : (r : Request) → lentSize (writeOrder r) ≤ lentMost
-write-lends r = either (leb (r .argument) flagMost) (Write (r .nexus) (eqb (r .argument) 1)) Unknown (omega arith) (omega arith)
+write-lends r = either (leb (r .argument) flagMost) (Write (r .nexus) (supports (r .argument))) Unknown (omega arith) (omega arith)
 
 tool-lends : (kind : ℕ) → lentSize (toolOrder kind) ≤ lentMost
 unfolding toolOrder
@@ -38,7 +40,7 @@ unfolding orderOf
 lends-most r =
     either (eqb (r .kind) powerOnKind) PowerOn _ (omega arith)
     (either (eqb (r .kind) inKind) (inOrder r) _ (in-lends r)
-    (either (eqb (r .kind) outKind) (Out (commandOf r)) _ (omega arith)
+    (either (eqb (r .kind) outKind) (Out (requestCommand r)) _ (omega arith)
     (either (eqb (r .kind) writeKind) (writeOrder r) _ (write-lends r)
     (either (eqb (r .kind) unitResetKind) UnitReset _ (omega arith)
     (either (isEvent (r .kind)) (Happen (eventOf (r .kind) (r .nexus) (r .argument))) _ (omega arith)
@@ -46,7 +48,7 @@ lends-most r =
 
 -- the kinds that have data are known: so "no data are read after" an unknown command
 module _ (r : Request) where
-  pub out-order : r .kind ≡ outKind → orderOf r ≡ Out (commandOf r)
+  pub out-order : r .kind ≡ outKind → orderOf r ≡ Out (requestCommand r)
   unfolding orderOf
   out-order e = rw e refl
 

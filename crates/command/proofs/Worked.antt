@@ -28,7 +28,8 @@ use Rattle.wire.specs.Parts.{joined, parts}
 use Rattle.record.specs.Bytes.{kadsBytes, setBytes, nexusBytes, recordBytes}
 use Rattle.record.specs.Reading.{kadsRead, fieldsRead, setRead, nexusRead, recordRead}
 use Rattle.record.specs.Good.{goodBytes}
-use Rattle.command.specs.Requests.{eventOf, toolOrder, orderOf}
+use Rattle.calls.specs.Asking.{eventOf}
+use Rattle.command.specs.Requests.{toolOrder, orderOf}
 use Rattle.command.specs.Replies.{inReply, writeReply, readReply, statusReply, takeReply, giveReply, obeyed}
 use Rattle.command.specs.Claims.{Exchange, exchange, converse}
 

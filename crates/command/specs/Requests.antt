@@ -4,11 +4,11 @@ use mathlib.Core.List.{List}
 use lib.Dec.{leb, eqb}
 use Rattle.arrays.specs.Base.{if_then_else_}
 use Rattle.wire.specs.Numbers.{byteAt, wordAt}
-use Rattle.places.specs.declared.Event.{Event}
-use Rattle.places.specs.declared.Event.the-variants.{Demount, NexusLoss, DeviceLoss, Preempt, Microcode, VendorRelease}
 use Rattle.drive.specs.declared.Command.{Command}
 use Rattle.drive.specs.Restoring.{blockOf}
-use Rattle.command.specs.Kinds.{powerOnKind, inKind, outKind, writeKind, unitResetKind, demountKind, nexusLossKind, deviceLossKind, preemptKind, microcodeKind, readKind, readStatusKind, takeRecordKind, giveRecordKind, isEvent}
+use Rattle.calls.specs.Kinds.{powerOnKind, inKind, outKind, writeKind, unitResetKind, readKind, isEvent}
+use Rattle.calls.specs.Asking.{commandOf, flagMost, supports, eventOf}
+use Rattle.command.specs.Kinds.{readStatusKind, takeRecordKind, giveRecordKind}
 use Rattle.command.specs.declared.Request.{Request}
 use Rattle.command.specs.declared.Order.{Order}
 use Rattle.command.specs.declared.Order.the-variants.{Unknown, PowerOn, In, Out, Write, Read, UnitReset, Happen, ReadStatus, TakeRecord, GiveRecord}
@@ -24,32 +24,19 @@ requestOf bytes = record {
 }
 
 -- IN, OUT: "sender; page code; protocol"
-abbrev pub commandOf : Request → Command
-commandOf r = record { nexus = r .nexus; protocol = r .protocol; code = r .argument }
-
--- the event of a kind that is one's: "nexus reservation loss, whose; preempt, preemptor; vendor release, place"
-unfoldable pub eventOf : (kind nexus argument : ℕ) → Event
-eventOf kind nexus argument =
-    if eqb kind demountKind then Demount
-    else if eqb kind nexusLossKind then NexusLoss nexus
-    else if eqb kind deviceLossKind then DeviceLoss
-    else if eqb kind preemptKind then Preempt nexus
-    else if eqb kind microcodeKind then Microcode
-    else VendorRelease argument
+abbrev pub requestCommand : Request → Command
+requestCommand r = commandOf (r .nexus) (r .protocol) (r .argument)
 
 -- IN: "size of the lent buffer, at most 4,096"
 abbrev pub lentMost : ℕ
 lentMost = 4096
 
 abbrev pub inOrder : Request → Order
-inOrder r = if leb (r .length) lentMost then In (commandOf r) (r .length) else Unknown
+inOrder r = if leb (r .length) lentMost then In (requestCommand r) (r .length) else Unknown
 
 -- write: "1 where the volume supports algorithm 1, else 0"; "a flag is never guessed"
-abbrev pub flagMost : ℕ
-flagMost = 1
-
 abbrev pub writeOrder : Request → Order
-writeOrder r = if leb (r .argument) flagMost then Write (r .nexus) (eqb (r .argument) 1) else Unknown
+writeOrder r = if leb (r .argument) flagMost then Write (r .nexus) (supports (r .argument)) else Unknown
 
 -- read: "block kind × 256 + key", whatever they are: what is wrong with them is the call's to say
 abbrev pub readOrder : Request → Order
@@ -68,7 +55,7 @@ unfoldable pub orderOf : Request → Order
 orderOf r =
     if eqb (r .kind) powerOnKind then PowerOn
     else if eqb (r .kind) inKind then inOrder r
-    else if eqb (r .kind) outKind then Out (commandOf r)
+    else if eqb (r .kind) outKind then Out (requestCommand r)
     else if eqb (r .kind) writeKind then writeOrder r
     else if eqb (r .kind) unitResetKind then UnitReset
     else if isEvent (r .kind) then Happen (eventOf (r .kind) (r .nexus) (r .argument))

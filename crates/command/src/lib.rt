@@ -3,31 +3,7 @@ use drive::Block;
 use drive::Command;
 use places::Event;
 
-// The kinds.
-pub const POWER_ON: u8 = 0;
-
-pub const IN: u8 = 1;
-
-pub const OUT: u8 = 2;
-
-pub const WRITE: u8 = 3;
-
-pub const UNIT_RESET: u8 = 4;
-
-pub const DEMOUNT: u8 = 5;
-
-pub const NEXUS_LOSS: u8 = 6;
-
-pub const DEVICE_LOSS: u8 = 7;
-
-pub const PREEMPT: u8 = 8;
-
-pub const MICROCODE: u8 = 9;
-
-pub const VENDOR_RELEASE: u8 = 10;
-
-pub const READ: u8 = 11;
-
+// The kinds that are no calls of the drive's; those of calls are in crate calls.
 pub const READ_STATUS: u8 = 253;
 
 pub const TAKE_RECORD: u8 = 254;

@@ -4,8 +4,6 @@ use Rattle.command_code.proofs.request_of.Reads as request-of
 use Rattle.command_code.proofs.request_of.Kinds as request-of-kinds
 use Rattle.command_code.proofs.has_data.Reads as has-data
 use Rattle.command_code.proofs.has_data.Kinds as has-data-kinds
-use Rattle.command_code.proofs.event_of.Reads as event-of
-use Rattle.command_code.proofs.event_of.Kinds as event-of-kinds
 use Rattle.command_code.proofs.order_of.Reads as order-of
 use Rattle.command_code.proofs.order_of.Kinds as order-of-kinds
 use Rattle.command_code.proofs.reply_head.Reads as reply-head
@@ -18,9 +16,6 @@ request-of-settles κs a x y s t p q = same p q
 
 pub has-data-settles : SettlesAnswer 0 has-data-kinds.ps has-data-kinds.r has-data.Post
 has-data-settles κs a x y s t p q = same p q
-
-pub event-of-settles : SettlesAnswer 0 event-of-kinds.ps event-of-kinds.r event-of.Post
-event-of-settles κs a x y s t p q = same p q
 
 pub order-of-settles : SettlesAnswer 0 order-of-kinds.ps order-of-kinds.r order-of.Post
 order-of-settles κs a x y s t p q = same p q

@@ -1,29 +1,22 @@
 // A command read, what it orders, and the bytes before a reply's data.
 use answer::Sense;
-use command::DEMOUNT;
-use command::DEVICE_LOSS;
+use calls::IN;
+use calls::OUT;
+use calls::POWER_ON;
+use calls::READ;
+use calls::UNIT_RESET;
+use calls::WRITE;
 use command::GIVE_RECORD;
-use command::IN;
 use command::LENT_MOST;
-use command::MICROCODE;
-use command::NEXUS_LOSS;
-use command::OUT;
 use command::Order;
-use command::POWER_ON;
-use command::PREEMPT;
-use command::READ;
 use command::READ_STATUS;
 use command::Request;
 use command::TAKE_RECORD;
-use command::UNIT_RESET;
-use command::VENDOR_RELEASE;
-use command::WRITE;
 use drive::Command;
-use places::Event;
 use status::Status;
 ghost use mathlib.Core.Path.{_≡_};
-ghost use Rattle.command.specs.Kinds.{hasData, isEvent};
-ghost use Rattle.command.specs.Requests.{requestOf, commandOf, eventOf, inOrder, writeOrder, toolOrder, orderOf};
+ghost use Rattle.command.specs.Kinds.{hasData};
+ghost use Rattle.command.specs.Requests.{requestOf, requestCommand, inOrder, writeOrder, toolOrder, orderOf};
 ghost use Rattle.command.specs.Replies.{replyHead, valuesHead};
 
 // The 8 bytes of a command; byte 5, the port, isn't read.
@@ -48,35 +41,9 @@ pub fn has_data(kind: u8) -> bool
 
 // What a security command says of itself.
 fn command_of(request: Request) -> Command
-    ensures { λ r. ⌜ r ≡ commandOf request ⌝ }
+    ensures { λ r. ⌜ r ≡ requestCommand request ⌝ }
 {
-    Command {
-        nexus: request.nexus,
-        protocol: request.protocol,
-        code: request.argument,
-    }
-}
-
-// The event of a kind from DEMOUNT to VENDOR_RELEASE.
-pub fn event_of(kind: u8, nexus: u8, argument: u16) -> Event
-    ensures { λ r. ⌜ r ≡ eventOf kind nexus argument ⌝ }
-{
-    if kind == DEMOUNT {
-        return Event::Demount;
-    }
-    if kind == NEXUS_LOSS {
-        return Event::NexusLoss(nexus);
-    }
-    if kind == DEVICE_LOSS {
-        return Event::DeviceLoss;
-    }
-    if kind == PREEMPT {
-        return Event::Preempt(nexus);
-    }
-    if kind == MICROCODE {
-        return Event::Microcode;
-    }
-    Event::VendorRelease(argument)
+    calls_code::command_of(request.nexus, request.protocol, request.argument)
 }
 
 // IN, where its buffer isn't too large.
@@ -115,12 +82,6 @@ fn tool_order(kind: u8) -> Order
     Order::Unknown
 }
 
-fn is_event(kind: u8) -> bool
-    ensures { λ r. ⌜ r ≡ isEvent kind ⌝ }
-{
-    (DEMOUNT <= kind) & (kind <= VENDOR_RELEASE)
-}
-
 // What a command orders.
 pub fn order_of(request: Request) -> Order
     ensures { λ r. ⌜ r ≡ orderOf request ⌝ }
@@ -141,8 +102,8 @@ pub fn order_of(request: Request) -> Order
     if kind == UNIT_RESET {
         return Order::UnitReset;
     }
-    if is_event(kind) {
-        return Order::Happen(event_of(kind, request.nexus, request.argument));
+    if calls_code::is_event(kind) {
+        return Order::Happen(calls_code::event_of(kind, request.nexus, request.argument));
     }
     if kind == READ {
         return Order::Read(request.nexus, drive_code::block_of(request.argument));

@@ -37,9 +37,9 @@ use Rattle.drive.specs.declared.Ruling.{Ruling}
 use Rattle.drive.specs.declared.ReadDecision.{ReadDecision}
 use Rattle.drive.specs.Restoring.{plainKind, encryptedKind, noKey, underMode, notKnown, restored}
 use Rattle.drive.specs.RestoringClaims.{readNumber}
-use Rattle.drive.specs.Calls.{Call, powerUp, securityIn, securityOut, write, read, unitReset, happens, senderOf}
+use Rattle.drive.specs.Calls.{Call, powerUp, securityIn, securityOut, write, read, unitReset, happens, senderOf, isPowerUp}
 use Rattle.status.specs.Pages.{isOutPage}
-use Rattle.drive.specs.Checks.{answerIf, firstOf, pageChecked, check1, check10, instanceChanged, notUsable, heardOf, permitted, commandedOf, checks, recordCheck, answer, knownAnswer}
+use Rattle.drive.specs.Checks.{answerIf, firstOf, pageChecked, check1, check10, instanceChanged, notUsable, heardOf, permitted, commandedOf, checks, recordCheck, answer, knownAnswer, answerWhere}
 use Rattle.drive.specs.Effects.{Effect, nothing, marks, takes, clears, releasing, restarts, doing, refusal, effectBy, effect}
 use Rattle.drive.specs.After.{changedBy, Telling, carriedOut, actorOf}
 use Rattle.drive.proofs.Checks.{all-done, passed, first-stops, first-passes, last-is}
@@ -60,6 +60,22 @@ formed-passes s (happens event) w = rw w
 pub known-agrees : (s : State) (call : Call) → wellFormed s ≡ true → answer s call ≡ knownAnswer s call
 unfolding answer knownAnswer
 known-agrees s call w = ap (λ (a : Answer). firstOf (a ∷ checks s call)) (formed-passes s call w)
+
+-- one that isn't is refused with 1, but for power-on
+unformed-agrees : (s : State) (call : Call) → wellFormed s ≡ false → answer s call ≡ answerWhere false s call
+unfolding answer answerWhere knownAnswer
+unformed-agrees s powerUp f = refl
+unformed-agrees s (securityIn command) f = rw f
+unformed-agrees s (securityOut command page) f = rw f
+unformed-agrees s (write n supported) f = rw f
+unformed-agrees s (read n block) f = rw f
+unformed-agrees s unitReset f = rw f
+unformed-agrees s (happens event) f = rw f
+
+-- Check 1 made beforehand gives every call its answer.
+pub where-agrees : (s : State) (call : Call) → answer s call ≡ answerWhere (wellFormed s) s call
+unfolding answerWhere
+where-agrees s call = cases (wellFormed s) (λ w. known-agrees s call w ∙ sym (rw w)) (λ f. unformed-agrees s call f ∙ sym (rw f))
 
 -- ---- a refusal
 

@@ -1,6 +1,6 @@
 -- The calls of document 01, and the read of document 02. An event is any that may release sets.
 use Prim.Native.Nat.{ℕ}
-use mathlib.Core.Bool.{Bool}
+use mathlib.Core.Bool.{Bool, true, false}
 use mathlib.Core.List.{List}
 use Rattle.places.specs.declared.Event.{Event}
 use Rattle.drive.specs.declared.Command.{Command}
@@ -26,3 +26,13 @@ senderOf (write n supported) = Acting n
 senderOf (read n block) = Acting n
 senderOf unitReset = Nobody
 senderOf (happens event) = Nobody
+
+-- "Power-on takes no record"
+abbrev pub isPowerUp : Call → Bool
+isPowerUp powerUp = true
+isPowerUp (securityIn command) = false
+isPowerUp (securityOut command page) = false
+isPowerUp (write n supported) = false
+isPowerUp (read n block) = false
+isPowerUp unitReset = false
+isPowerUp (happens event) = false

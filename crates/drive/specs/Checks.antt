@@ -1,6 +1,6 @@
 -- Document 01, "Answer numbers": "Checks run in number order, and a check applies only to calls that have its argument."
 use Prim.Native.Nat.{ℕ}
-use mathlib.Core.Bool.{Bool, not, _&&_}
+use mathlib.Core.Bool.{Bool, not, _&&_, _||_}
 use mathlib.Core.List.{List, [], _∷_, _++_}
 use lib.Dec.{leb, eqb}
 use lib.ListN.{length}
@@ -20,7 +20,7 @@ use Rattle.device.specs.declared.Set.{Set}
 use Rattle.device.specs.declared.Nexus.{Nexus}
 use Rattle.status.specs.Pages.{isInPage, isOutPage}
 use Rattle.drive.specs.declared.Command.{Command}
-use Rattle.drive.specs.Calls.{Call, powerUp, securityIn, securityOut, write, read, unitReset, happens}
+use Rattle.drive.specs.Calls.{Call, powerUp, securityIn, securityOut, write, read, unitReset, happens, isPowerUp}
 use Rattle.drive.specs.Restoring.{restored}
 use Rattle.places.specs.Actions.{noPlace}
 use Rattle.places.specs.declared.Event.{Event}
@@ -137,3 +137,7 @@ answer s call = firstOf (recordCheck s call ∷ checks s call)
 -- the same list of checks without the first: the answer to a call whose record is known to be well formed
 unfoldable pub knownAnswer : State → Call → Answer
 knownAnswer s call = firstOf (checks s call)
+
+-- where check 1 was made before: the answer to a call by whether the record is well formed
+unfoldable pub answerWhere : (formed : Bool) → State → Call → Answer
+answerWhere formed s call = if formed || isPowerUp call then knownAnswer s call else NotWellFormed

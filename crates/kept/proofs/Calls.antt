@@ -2,14 +2,14 @@
 -- Assumes nothing.
 use Prim.Native.Nat.{ℕ, _<_}
 use mathlib.Core.Path.{_≡_, refl, sym, ap, _∙_}
-use mathlib.Core.Bool.{Bool, true, false, not, _&&_}
+use mathlib.Core.Bool.{Bool, true, false, not, _&&_, _||_}
 use mathlib.Core.Logic.{_⊎_, ⊎-elim}
 use mathlib.Core.List.{List}
 use native.Mathlib.Omega.{arith}
 use borrow.Author.Tests.{eq-eqb}
 use lib.Dec.{eqb}
 use lib.ListN.{length}
-use Rattle.arrays.proofs.Base.{clash}
+use Rattle.arrays.proofs.Base.{cases, clash}
 use Rattle.arrays.proofs.Loops.{mapFrom-map}
 use Rattle.answer.specs.declared.Change.{Change}
 use Rattle.answer.specs.declared.Change.the-variants.{Registered}
@@ -30,8 +30,9 @@ use Rattle.marks.specs.declared.Actor.{Actor}
 use Rattle.places.specs.Actions.{releasedBy, room, isNoRoom, taken}
 use Rattle.places.specs.declared.Room.{Room}
 use Rattle.places.specs.declared.Room.the-variants.{NoRoom}
-use Rattle.drive.specs.Calls.{Call}
-use Rattle.drive.specs.Effects.{Effect, nothing, marks, takes, clears, releasing, restarts, effect}
+use Rattle.drive.specs.Calls.{Call, powerUp, securityIn, securityOut, write, read, unitReset, happens, isPowerUp}
+use Rattle.drive.specs.Checks.{checks, answer}
+use Rattle.drive.specs.Effects.{Effect, nothing, marks, takes, clears, releasing, restarts, effectBy, effect}
 use Rattle.drive.specs.After.{changedBy, Telling, carriedOut, byNumber, after}
 use Rattle.drive.proofs.Effects as effects
 use Rattle.kept.proofs.Kept.{releases-kept, marks-kept, mark-kept, SetFit, Fit, taken-kept}
@@ -112,3 +113,33 @@ effect-kept rule s restarts d nexuses places w = power-on-well (length (s .nexus
 -- Every call of a well-formed record leaves a well-formed record.
 pub call-kept : (s : State) (call : Call) → 0 < length (s .nexuses) → 0 < length (s .sets) → wellFormed s ≡ true → wellFormed (after s call) ≡ true
 call-kept s call = effect-kept byNumber s (effect s call) (effects.effect-due s call)
+
+-- A record that isn't well formed stays as it is, until power-on.
+pub unformed-stays : (s : State) (call : Call) → wellFormed s ≡ false → isPowerUp call ≡ false → after s call ≡ s
+unfolding answer effectBy carriedOut changedBy
+unformed-stays s powerUp w f = clash refl f
+unformed-stays s (securityIn command) w f = rw w refl
+unformed-stays s (securityOut command page) w f = rw w refl
+unformed-stays s (write n supported) w f = rw w refl
+unformed-stays s (read n block) w f = rw w refl
+unformed-stays s unitReset w f = rw w refl
+unformed-stays s (happens event) w f = rw w refl
+
+-- Power-on gives a well-formed one.
+restarted : (s : State) (call : Call) → 0 < length (s .nexuses) → isPowerUp call ≡ true → wellFormed (after s call) ≡ true
+unfolding checks answer effectBy carriedOut changedBy
+restarted s powerUp nexuses e = power-on-well (length (s .nexuses)) (length (s .sets)) (λ h. nexuses)
+restarted s (securityIn command) nexuses e = clash e refl
+restarted s (securityOut command page) nexuses e = clash e refl
+restarted s (write n supported) nexuses e = clash e refl
+restarted s (read n block) nexuses e = clash e refl
+restarted s unitReset nexuses e = clash e refl
+restarted s (happens event) nexuses e = clash e refl
+
+-- So whether the record after a call is well formed is known before it: check 1 need not be made again.
+module _ (s : State) (call : Call) (nexuses : 0 < length (s .nexuses)) (places : 0 < length (s .sets)) where
+  pub formed-after : wellFormed (after s call) ≡ (wellFormed s || isPowerUp call)
+  formed-after =
+      cases (wellFormed s)
+      (λ w. call-kept s call nexuses places w ∙ sym (rw w))
+      (λ f. cases (isPowerUp call) (λ t. restarted s call nexuses t ∙ sym (rw (f, t))) (λ u. ap wellFormed (unformed-stays s call f u) ∙ f ∙ sym (rw (f, u))))

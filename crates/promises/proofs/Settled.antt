@@ -17,6 +17,7 @@ pub use Rattle.wire_code.proofs.Settled.{zero-from-settles as wire-code-zero-fr
 pub use Rattle.wire_code.proofs.Settled.{is-length-wrong-settles as wire-code-is-length-wrong-settles}
 pub use Rattle.wire_code.proofs.Settled.{number-at-settles as wire-code-number-at-settles}
 pub use Rattle.wire_code.proofs.Settled.{is-same-settles as wire-code-is-same-settles}
+pub use Rattle.wire_code.proofs.Settled.{part-settles as wire-code-part-settles}
 -- crate answer_code
 pub use Rattle.answer_code.proofs.Settled.{row-of-settles as answer-code-row-of-settles}
 pub use Rattle.answer_code.proofs.Settled.{sense-of-settles as answer-code-sense-of-settles}
@@ -88,10 +89,27 @@ pub use Rattle.record_code.proofs.Settled.{set-read-settles as record-code-set-
 pub use Rattle.record_code.proofs.Settled.{nexus-read-settles as record-code-nexus-read-settles}
 pub use Rattle.record_code.proofs.Settled.{set-at-settles as record-code-set-at-settles}
 pub use Rattle.record_code.proofs.Settled.{nexus-at-settles as record-code-nexus-at-settles}
+-- crate calls_code
+pub use Rattle.calls_code.proofs.Settled.{command-of-settles as calls-code-command-of-settles}
+pub use Rattle.calls_code.proofs.Settled.{event-of-settles as calls-code-event-of-settles}
+pub use Rattle.calls_code.proofs.Settled.{is-event-settles as calls-code-is-event-settles}
+pub use Rattle.calls_code.proofs.Settled.{asked-of-settles as calls-code-asked-of-settles}
+pub use Rattle.calls_code.proofs.Settled.{is-power-on-settles as calls-code-is-power-on-settles}
+pub use Rattle.calls_code.proofs.Settled.{sender-number-settles as calls-code-sender-number-settles}
+pub use Rattle.calls_code.proofs.Settled.{quietly-settles as calls-code-quietly-settles}
+-- crate recording_code
+pub use Rattle.recording_code.proofs.Settled.{verdict-number-settles as recording-code-verdict-number-settles}
+pub use Rattle.recording_code.proofs.Settled.{entry-of-settles as recording-code-entry-of-settles}
+pub use Rattle.recording_code.proofs.Settled.{sound-run-settles as recording-code-sound-run-settles}
+pub use Rattle.recording_code.proofs.Settled.{asked-of-settles as recording-code-asked-of-settles}
+pub use Rattle.recording_code.proofs.Settled.{page-of-settles as recording-code-page-of-settles}
+pub use Rattle.recording_code.proofs.Settled.{header-of-settles as recording-code-header-of-settles}
+pub use Rattle.recording_code.proofs.Settled.{events-of-settles as recording-code-events-of-settles}
+pub use Rattle.recording_code.proofs.Settled.{pages-of-settles as recording-code-pages-of-settles}
+pub use Rattle.recording_code.proofs.Settled.{is-sound-file-settles as recording-code-is-sound-file-settles}
 -- crate command_code
 pub use Rattle.command_code.proofs.Settled.{request-of-settles as command-code-request-of-settles}
 pub use Rattle.command_code.proofs.Settled.{has-data-settles as command-code-has-data-settles}
-pub use Rattle.command_code.proofs.Settled.{event-of-settles as command-code-event-of-settles}
 pub use Rattle.command_code.proofs.Settled.{order-of-settles as command-code-order-of-settles}
 pub use Rattle.command_code.proofs.Settled.{reply-head-settles as command-code-reply-head-settles}
 pub use Rattle.command_code.proofs.Settled.{values-head-settles as command-code-values-head-settles}

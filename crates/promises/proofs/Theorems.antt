@@ -58,6 +58,33 @@ pub use Rattle.command.proofs.Worked.{session-proved, further-proved as stream-
 pub use Rattle.kept.proofs.Calls.{call-kept}
 pub use Rattle.device.proofs.WellFormed.{power-on-well}
 pub use Rattle.kept.proofs.Runs.{since-power-on, never-1}
+-- Check 1 made beforehand gives every call its answer; whether the record after a call is well formed is known before it, and one that
+-- isn't stays as it is until power-on.
+pub use Rattle.drive.proofs.Effects.{where-agrees}
+pub use Rattle.kept.proofs.Calls.{formed-after, unformed-stays}
+-- What is found of IN, a write and a read by the sender and the set that it uses alone is its answer, and all that it changes; one that is
+-- found to change nothing leaves the record as it is.
+pub use Rattle.calls.proofs.Quietly.{quiet-still, in-found, write-found, read-found}
+-- What each kind asks of the drive.
+pub use Rattle.calls.proofs.Worked.{kind-0, kind-1, kind-2, kind-3, kind-4, kind-5, kind-6, kind-7, kind-8, kind-9, kind-10, kind-11}
+-- Document 02, request 3: every wrong thing in a file, and what is not wrong; what each field of each kind may hold; the calls of a file.
+pub use Rattle.recording.proofs.Worked.{files, files-computed, fields, fields-computed, calls-computed}
+-- Replay takes a file exactly if it is sound, as document 02 words it.
+pub use Rattle.recording.proofs.Exactly.{taken-is-sound, sound-is-taken}
+-- A file made of whole events and page bytes, at most 65,535 bytes in all, has them back, and is sound exactly if the events are.
+pub use Rattle.recording.proofs.Made.{made-events, made-pages, made-sound, made-calls}
+-- Recordings replayed: verdict, each byte of the buffer, and the whole record at the end.
+pub use Rattle.session.proofs.Worked.{table as replay-table, worked as replay-proved, four-as-printed}
+-- A file that isn't sound is refused with 22, and record and buffer stay; of any other the record at the end is the one that its events
+-- give in order, and four bytes are told for each.
+pub use Rattle.session.proofs.Replayed.{file-refused, file-taken}
+-- The four bytes of each event are the answer that the drive gives it at that point of the session.
+pub use Rattle.session.proofs.Replayed.{answer-at}
+-- A recording cut after k events, its header put right, is taken, gives the first 4k bytes of the whole, and leaves the record that the
+-- first k events leave.
+pub use Rattle.session.proofs.Cut.{cut-as-whole}
+-- Calls after calls: the record and the answers are those of the first, and then of the others from there.
+pub use Rattle.session.proofs.OneByOne.{run-append, answers-append}
 -- Our single action frees "LOCAL there, or ALL for place 0", as document 01 words it.
 pub use Rattle.kept.proofs.Freed.{freed-as-worded}
 -- A page with SDK 0, LOCAL or ALL, that is done leaves its sender using the set that its bytes ask for.

@@ -38,3 +38,9 @@ pub use Rattle.record_16.proofs.Settled.{record-bytes-settles as record-16-reco
 pub use Rattle.record_16.proofs.Settled.{load-settles as record-16-load-settles}
 -- crate stream_16
 pub use Rattle.stream_16.proofs.Settled.{obey-settles as stream-16-obey-settles}
+-- crate calls_16
+pub use Rattle.calls_16.proofs.Settled.{look-settles as calls-16-look-settles}
+pub use Rattle.calls_16.proofs.Settled.{perform-settles as calls-16-perform-settles}
+-- crate session_16
+pub use Rattle.session_16.proofs.Settled.{run-settles as session-16-run-settles}
+pub use Rattle.session_16.proofs.Settled.{replay-settles as session-16-replay-settles}

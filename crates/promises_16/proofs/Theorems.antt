@@ -3,7 +3,7 @@
 use Prim.Native.Nat.{ℕ, _<_, _^_}
 use mathlib.Core.Bool.{Bool, true}
 use mathlib.Core.List.{List, [], _∷_}
-use mathlib.Core.Path.{_≡_, refl, ap, subst, _∙_}
+use mathlib.Core.Path.{_≡_, refl, sym, ap, subst, _∙_}
 use lib.Dec.{lit<}
 use Rattle.page.specs.Check.{checked}
 use Rattle.device.specs.Record.{State, nexusAt, powerOn}
@@ -19,6 +19,10 @@ use Rattle.sizes_16.specs.Sizes.{nexusCount, placeCount}
 use Rattle.device_16.specs.Model.{state, device}
 use Rattle.device_16.specs.declared.Device.{Device}
 use Rattle.drive_16.specs.Outcomes.{outcomeBy, outcome, poweredOn}
+use Rattle.recording.specs.Files.{soundFile, fileVerdict, callsOf}
+use Rattle.session.proofs.Replayed.{file-taken}
+use Rattle.session_16.specs.Sessions.{start, Gives}
+use Rattle.session_16.specs.declared.Ran.{Ran}
 use Rattle.promises_16.specs.Runs.{leaves, sincePowerOn}
 -- What this model writes as a record's bytes is loaded as the same record; bytes that are loaded, written again, are the same bytes; a
 -- load takes bytes exactly if their count is right and each yes/no byte is 0 or 1; a refused one carries nothing.
@@ -53,3 +57,9 @@ demand3-here calls fits n here supported heard locked =
     let e = runs-so calls in
     let r = demand3-run nexusCount placeCount (lit< tt) calls fits n here supported (subst (λ (s : State). isHeard s n ≡ true) e heard) (subst (λ (s : State). nexusAt s n .lock ≡ true) e locked) in
     (r .0, ap (λ (s : State). isStopped s n supported) e ∙ r .1)
+
+-- replay of a sound file, as its promise states it, leaves the record that the file's events leave, each sent as a call by itself
+pub replay-as-calls : (file buffer : List ℕ) (r : Ran) (after : List ℕ) → Gives (fileVerdict file) start (callsOf file) buffer r after → soundFile file ≡ true
+    → state (r .device) ≡ state (sincePowerOn (callsOf file))
+replay-as-calls file buffer r after g sound =
+    ap (λ (x : Ran). state (x .device)) (g .ran) ∙ file-taken start file buffer sound .left ∙ sym (runs-so (callsOf file))

@@ -15,6 +15,10 @@ Settles n ps r B see P =
 abbrev pub SettlesAnswer : (n : ℕ) (ps : List (PK n)) (r : RK n) → Out n ps r → Type 0
 SettlesAnswer n ps r P = (κs : Lfts n) (a : Dens κs ps) (x y : resT r κs .Denot) (s t : AtExit (endedOf n ps r) κs) → P κs a x s → P κs a y t → x ≡ y
 
+-- The answer is a part of what was lent to be read: what it holds is to be settled.
+abbrev pub SettlesPart : (n : ℕ) (ps : List (PK n)) (r : RK n) (B : Type 0) → ((κs : Lfts n) → resT r κs .Denot → B) → Out n ps r → Type 0
+SettlesPart n ps r B see P = (κs : Lfts n) (a : Dens κs ps) (x y : resT r κs .Denot) (s t : AtExit (endedOf n ps r) κs) → P κs a x s → P κs a y t → see κs x ≡ see κs y
+
 -- The one law: what equals the same thing is equal.
 pub same : {A : Type 0} {x y f : A} → x ≡ f → y ≡ f → x ≡ y
 same p q = p ∙ sym q

@@ -3,7 +3,7 @@ use Prim.Native.Nat.{ℕ}
 use mathlib.Core.Path.{refl}
 use mathlib.Core.List.{List}
 use denote.Ref.{now}
-use Rattle.settled.specs.Settles.{Settles, SettlesAnswer, same, both-same}
+use Rattle.settled.specs.Settles.{Settles, SettlesAnswer, SettlesPart, same, both-same}
 use Rattle.wire_code.proofs.byte_at.Reads as byte-at
 use Rattle.wire_code.proofs.byte_at.Kinds as byte-at-kinds
 use Rattle.wire_code.proofs.word.Reads as word
@@ -36,6 +36,8 @@ use Rattle.wire_code.proofs.number_at.Reads as number-at
 use Rattle.wire_code.proofs.number_at.Kinds as number-at-kinds
 use Rattle.wire_code.proofs.is_same.Reads as is-same
 use Rattle.wire_code.proofs.is_same.Kinds as is-same-kinds
+use Rattle.wire_code.proofs.part.Reads as part
+use Rattle.wire_code.proofs.part.Kinds as part-kinds
 
 pub byte-at-settles : SettlesAnswer 1 byte-at-kinds.ps byte-at-kinds.r byte-at.Post
 byte-at-settles κs a x y s t p q = same p q
@@ -84,3 +86,6 @@ number-at-settles κs a x y s t p q = same p q
 
 pub is-same-settles : SettlesAnswer 2 is-same-kinds.ps is-same-kinds.r is-same.Post
 is-same-settles κs a x y s t p q = same p q
+
+pub part-settles : SettlesPart 1 part-kinds.ps part-kinds.r (List ℕ) (λ κs x. now x) part.Post
+part-settles κs a x y s t p q = same p q

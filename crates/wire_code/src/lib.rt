@@ -1,7 +1,7 @@
 // Bytes: big-endian numbers, stores into a lent buffer, runs of zeros.
 ghost use mathlib.Core.Path.{_≡_};
 ghost use Prim.Native.Nat.{_<_};
-ghost use lib.ListN.{length, drop};
+ghost use lib.ListN.{length, take, drop};
 ghost use lib.Seq.{sets};
 ghost use Rattle.wire.specs.Numbers.{byteAt, word, number, wordAt, numberAt, two, four};
 ghost use Rattle.wire.specs.Buffers.{Shown, padded, allZero, sameBytes};
@@ -145,6 +145,19 @@ pub fn zero_from(s: &[u8], from: usize) -> bool
     } else {
         true
     }
+}
+
+// A part of a slice, as much of it as there is.
+pub fn part(s: &[u8], at: usize, size: usize) -> &[u8]
+    ensures { λ r. ⌜ now r ≡ take size (drop at (now (s .entry))) ⌝ }
+{
+    if s.len() <= at {
+        return &s[0..0];
+    }
+    if s.len() - at < size {
+        return &s[at..];
+    }
+    &s[at..at + size]
 }
 
 // A page has fewer bytes than the least, or not as many as its bytes 2 and 3 say.

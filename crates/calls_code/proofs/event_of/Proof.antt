@@ -1,7 +1,7 @@
 use borrow.Author.Tests.{eq-eqb, ne-eqb}
-use Rattle.command.specs.Requests.{eventOf}
-use Rattle.command_code.proofs.event_of.Statement.{statement}
-use Rattle.command_code.proofs.event_of.Tie as tie
+use Rattle.calls.specs.Asking.{eventOf}
+use Rattle.calls_code.proofs.event_of.Statement.{statement}
+use Rattle.calls_code.proofs.event_of.Tie as tie
 
 pub event-of-spec : {M : Type 1} → statement M
 unfolding eventOf

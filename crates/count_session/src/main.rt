@@ -1,0 +1,99 @@
+// Plays a recording in one of three ways, for counting its instructions (bench/run). Input: the way, then the recording. 0 reads its
+// events alone, 1 makes each call by itself, 2 replays it. Output: the record at the end.
+use calls::Asked;
+use device_16::Device;
+use recording::ENTRY_SIZE;
+
+const ANSWERS: usize = 32760;
+
+// One call, with its check 1.
+fn call(d: Device, asked: Asked, page: &[u8]) -> Device {
+    match asked {
+        Asked::PowerOn => {
+            let outcome = drive_16::power_on();
+            outcome.device
+        }
+        Asked::In(command) => {
+            let mut nothing = [0u8; 0];
+            let outcome = drive_16::security_in(d, command, &mut nothing);
+            outcome.device
+        }
+        Asked::Out(command) => {
+            let outcome = drive_16::security_out(d, command, page);
+            outcome.device
+        }
+        Asked::Write(n, supported) => {
+            let outcome = drive_16::write(d, n, supported);
+            outcome.device
+        }
+        Asked::Read(n, block) => {
+            let outcome = drive_16::read(d, n, block);
+            outcome.device
+        }
+        Asked::UnitReset => {
+            let outcome = drive_16::unit_reset(d);
+            outcome.device
+        }
+        Asked::Happen(event) => {
+            let outcome = drive_16::happen(d, event);
+            outcome.device
+        }
+    }
+}
+
+// Reads the events alone. What is read is used, so that it isn't left out.
+fn read_alone(events: &[u8], pages: &[u8]) -> u8 {
+    let mut rest = events;
+    let mut seen: u8 = 0;
+    while ENTRY_SIZE <= rest.len() {
+        let e = recording_code::entry_of(rest);
+        let page = recording_code::page_of(e, pages);
+        let power = calls_code::is_power_on(recording_code::asked_of(e));
+        seen = seen ^ wire_code::byte_at(page, 0) ^ (power as u8);
+        rest = &rest[ENTRY_SIZE..];
+    }
+    seen
+}
+
+// Makes each call by itself.
+fn one_by_one(start: Device, events: &[u8], pages: &[u8]) -> Device {
+    let mut d = start;
+    let mut rest = events;
+    while ENTRY_SIZE <= rest.len() {
+        let e = recording_code::entry_of(rest);
+        d = call(
+            d,
+            recording_code::asked_of(e),
+            recording_code::page_of(e, pages),
+        );
+        rest = &rest[ENTRY_SIZE..];
+    }
+    d
+}
+
+fn play(way: u8, file: &[u8]) -> Device {
+    let start = device_16::power_on();
+    let events = recording_code::events_of(file);
+    let pages = recording_code::pages_of(file);
+    if way == 1 {
+        return one_by_one(start, events, pages);
+    }
+    if way == 2 {
+        let mut answers = [0u8; ANSWERS];
+        let ran = session_16::replay(file, &mut answers);
+        return ran.device;
+    }
+    let seen = [read_alone(events, pages)];
+    io::write_all(2, &seen);
+    start
+}
+
+fn main() {
+    let mut input = io::large_buffer();
+    let length = io::read_full(0, &mut input);
+    if length == 0 {
+        return;
+    }
+    let bytes = record_16::record_bytes(play(input[0], &input[1..length]));
+    io::write_all(1, &bytes);
+}

@@ -1,0 +1,6 @@
+pub mod OneByOne
+pub mod Folds
+pub mod Stores
+pub mod Cut
+pub mod Replayed
+pub mod Worked

@@ -1,0 +1,4 @@
+pub mod Answers
+pub mod Folds
+pub mod Sessions
+pub mod Claims
