@@ -94,29 +94,3 @@ impl Refused {
         }
     }
 }
-
-/// The column "When" of 01's table, and the like for 14 to 17, for reports.
-pub fn when(number: u8) -> &'static str {
-    match number {
-        0 => "done",
-        1 => "record not well formed",
-        2 => "nexus above 15",
-        3 => "pending: changed by another nexus",
-        4 => "pending: changed by vendor event",
-        5 => "protocol not 20h",
-        6 => "page not supported",
-        7 => "page length wrong",
-        8 => "field wrong",
-        9 => "fifth supplemental key",
-        10 => "no place for a LOCAL set",
-        11 => "key instance changed",
-        12 => "parameters not usable",
-        13 => "place argument above 4",
-        14 => "block kind or key not known",
-        15 => "block can't be decrypted",
-        16 => "plain block while decrypting",
-        17 => "no key opened the block",
-        255 => "unknown kind of command",
-        _ => "not an answer of 01 or 02",
-    }
-}

@@ -1,20 +1,25 @@
-//! A second, independent account of document 01, and of requests 1 and 2 of document 02: the encryption controller of
-//! a tape drive, and the program that compares it with another drive on a pipe.
+//! A second, independent account of document 01, and of requests 1 to 3 of document 02: the encryption controller of
+//! a tape drive, the replay of recorded sessions, and the programs that compare them with others on a pipe.
 
 #![forbid(unsafe_code)]
 
 pub mod account;
 pub mod answer;
+pub mod answer_words;
 pub mod calls;
 pub mod codes;
 pub mod comparison;
 pub mod controller;
 pub mod descriptors;
 mod flags;
+pub mod hex;
+pub mod names;
 mod places;
 pub mod record;
 pub mod record_bytes;
+pub mod recording;
 pub mod response_pages;
+pub mod script;
 pub mod set_page;
 pub mod sizes;
 pub mod status_page;

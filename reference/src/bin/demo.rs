@@ -1,29 +1,41 @@
-//! Plays P1 to P10 of document 01, "Proved examples", and a restoring host of document 02 on a drive program and
-//! tells in words what happens.
+//! Plays P1 to P10 of document 01, "Proved examples", a restoring host of document 02 and the recording of a month on
+//! a drive program and tells in words what happens.
 //!
-//! `demo PROGRAM [ARGUMENT ...]`
+//! `demo ROOT PROGRAM [ARGUMENT ...]`: ROOT is the repository's root, which has the month in examples/.
 
 #![forbid(unsafe_code)]
 
+#[path = "support/comments.rs"]
+mod comments;
+#[path = "support/files.rs"]
+mod files;
+#[path = "support/month.rs"]
+mod month;
 #[path = "support/pipe.rs"]
 mod pipe;
 #[path = "support/restoring_host.rs"]
 mod restoring_host;
 
+use comments::WRITTEN;
+use files::Ended;
+use month::Month;
 use pipe::Pipe;
-use reference::answer::{when, Refused, Sense, NO_SENSE};
+use reference::answer::{Refused, Sense, NO_SENSE};
+use reference::answer_words;
 use reference::codes::{page_code, scope};
 use reference::comparison::page_builder::{descriptor, SetPage};
 use reference::comparison::session::{
     event, give_record, power_on, read_status, security_in, security_out, write,
 };
+use reference::hex;
+use reference::names::{name_of, DECRYPTION_MODES, ENCRYPTION_MODES, SCOPES};
 use reference::record::Record;
 use reference::record_bytes;
 use reference::sizes::U_KAD_BYTES;
 use reference::stream::{kind, Command, Reply};
 use std::process::ExitCode;
 
-const USAGE: &str = "usage: demo PROGRAM [ARGUMENT ...]";
+const USAGE: &str = "usage: demo ROOT PROGRAM [ARGUMENT ...]";
 
 /// The status buffer lent to the drive.
 const LENT: u16 = 100;
@@ -32,22 +44,15 @@ const LENT: u16 = 100;
 type Played = Result<(), String>;
 
 fn main() -> ExitCode {
-    let program: Vec<String> = std::env::args().skip(1).collect();
-    let pipe = match program.first() {
-        None => Err(String::new()),
-        Some(option) if option.starts_with('-') => Err(format!("unknown option {option}\n")),
-        Some(_) => Pipe::start(&program).map_err(|fault| fault + "\n"),
+    let arguments: Vec<String> = std::env::args().skip(1).collect();
+    let (month, pipe) = match ready(&arguments) {
+        Ok(ready) => ready,
+        Err(ended) => return ended.code(),
     };
-    let mut play = match pipe {
-        Ok(pipe) => Play { pipe, document: "01", step: "", differing: Vec::new() },
-        Err(fault) => {
-            eprintln!("{fault}{USAGE}");
-            return ExitCode::from(2);
-        }
-    };
+    let mut play = Play { pipe, document: "01", step: "", differing: Vec::new() };
     println!(
-        "The examples of document 01 and a restoring host of document 02, played on {}.",
-        program.join(" ")
+        "The examples of document 01, a restoring host of document 02 and a month of an archive, played on {}.",
+        arguments[1..].join(" ")
     );
     println!(
         "A nexus is one host's connection to the tape drive (0 to 15). It sends Set Data Encryption pages;"
@@ -56,7 +61,7 @@ fn main() -> ExitCode {
         "the drive keeps their parameters in places: 0 for all nexuses (ALL), 1 to 4 for one nexus (LOCAL)."
     );
     println!("A read tells the drive which kind of block it met and which of the nexus's keys opened it.");
-    if let Err(trouble) = play.all() {
+    if let Err(trouble) = play.all(&month) {
         println!("{}: can't be played: {trouble}", play.step);
         return ExitCode::FAILURE;
     }
@@ -64,8 +69,23 @@ fn main() -> ExitCode {
         println!("\n{}: not as documents 01 and 02 say", play.differing.join(", "));
         return ExitCode::FAILURE;
     }
-    println!("\nP1 to P10 and the restoring host: as documents 01 and 02 say");
+    println!("\nP1 to P10, the restoring host and the month: as documents 01 and 02 say");
     ExitCode::SUCCESS
+}
+
+/// The month, read, and the drive program, started.
+fn ready(arguments: &[String]) -> Result<(Month, Pipe), Ended> {
+    let unusable = |fault: String| Ended::unusable(fault + USAGE);
+    if let Some(option) = arguments.iter().take(2).find(|argument| argument.starts_with('-')) {
+        return Err(unusable(format!("unknown option {option}\n")));
+    }
+    let [root, program @ ..] = arguments else { return Err(unusable(String::new())) };
+    if program.is_empty() {
+        return Err(unusable(String::new()));
+    }
+    let month = Month::read(root)?;
+    let pipe = Pipe::start(program).map_err(|fault| unusable(fault + "\n"))?;
+    Ok((month, pipe))
 }
 
 /// The play: the drive, the document and the step at hand, and the steps that went another way than it says.
@@ -77,7 +97,7 @@ struct Play {
 }
 
 impl Play {
-    fn all(&mut self) -> Played {
+    fn all(&mut self, month: &Month) -> Played {
         self.p1()?;
         self.p2()?;
         self.p3()?;
@@ -88,7 +108,8 @@ impl Play {
         self.p8()?;
         self.p9()?;
         self.p10()?;
-        self.restoring_host()
+        self.restoring_host()?;
+        self.month(month)
     }
 
     fn p1(&mut self) -> Played {
@@ -208,10 +229,15 @@ impl Play {
     /// Says so if the drive went another way.
     fn check(&mut self, same: bool, expected: &str) {
         if !same {
-            println!("    DIFFERS: document {} says {expected}", self.document);
-            if !self.differing.contains(&self.step) {
-                self.differing.push(self.step);
-            }
+            self.differs(&format!("document {} says {expected}", self.document));
+        }
+    }
+
+    /// Says how the drive went another way at this step.
+    fn differs(&mut self, how: &str) {
+        println!("    DIFFERS: {how}");
+        if !self.differing.contains(&self.step) {
+            self.differing.push(self.step);
         }
     }
 
@@ -315,69 +341,27 @@ fn sense_of(number: u8) -> Sense {
 
 /// An answer number with its meaning, and its sense with SPC-4's name.
 fn answer_words(reply: &Reply) -> String {
-    number_words(reply.number, reply.sense)
+    answer_words::long(reply.number, reply.sense)
 }
 
 fn expected_words(number: u8) -> String {
-    number_words(number, sense_of(number))
-}
-
-fn number_words(number: u8, sense: Sense) -> String {
-    let words = format!("answer {number}, {}", when(number));
-    if sense == NO_SENSE {
-        return words;
-    }
-    let [key, asc, ascq] = sense;
-    format!(
-        "{words}\n    sense {key:X}/{asc:02X}/{ascq:02X}: {}, {}",
-        sense_key_name(key),
-        sense_name(asc, ascq)
-    )
-}
-
-/// SPC-4's names of the sense keys.
-fn sense_key_name(key: u8) -> &'static str {
-    match key {
-        5 => "ILLEGAL REQUEST",
-        6 => "UNIT ATTENTION",
-        7 => "DATA PROTECT",
-        _ => "a sense key documents 01 and 02 don't use",
-    }
-}
-
-/// SPC-4's names of the additional sense codes.
-fn sense_name(asc: u8, ascq: u8) -> &'static str {
-    match (asc, ascq) {
-        (0x1A, 0x00) => "PARAMETER LIST LENGTH ERROR",
-        (0x24, 0x00) => "INVALID FIELD IN CDB",
-        (0x26, 0x00) => "INVALID FIELD IN PARAMETER LIST",
-        (0x2A, 0x11) => "DATA ENCRYPTION PARAMETERS CHANGED BY ANOTHER I_T NEXUS",
-        (0x2A, 0x12) => "DATA ENCRYPTION PARAMETERS CHANGED BY VENDOR SPECIFIC EVENT",
-        (0x2A, 0x13) => "DATA ENCRYPTION KEY INSTANCE COUNTER HAS CHANGED",
-        (0x55, 0x03) => "INSUFFICIENT RESOURCES",
-        (0x55, 0x08) => "MAXIMUM NUMBER OF SUPPLEMENTAL DECRYPTION KEYS EXCEEDED",
-        (0x74, 0x01) => "UNABLE TO DECRYPT DATA",
-        (0x74, 0x02) => "UNENCRYPTED DATA ENCOUNTERED WHILE DECRYPTING",
-        (0x74, 0x03) => "INCORRECT DATA ENCRYPTION KEY",
-        (0x74, 0x07) => "ENCRYPTION PARAMETERS NOT USEABLE",
-        _ => "a code documents 01 and 02 don't use",
-    }
+    answer_words::long(number, sense_of(number))
 }
 
 fn scope_name(scope: u8) -> &'static str {
-    ["PUBLIC", "LOCAL", "ALL"].get(usize::from(scope)).copied().unwrap_or("unknown")
+    name_of(&SCOPES, scope).unwrap_or("unknown")
 }
 
 fn encryption_name(mode: u8) -> &'static str {
-    ["DISABLE", "EXTERNAL", "ENCRYPT"].get(usize::from(mode)).copied().unwrap_or("unknown")
+    name_of(&ENCRYPTION_MODES, mode).unwrap_or("unknown")
 }
 
 fn decryption_name(mode: u8) -> &'static str {
-    ["DISABLE", "RAW", "DECRYPT", "MIXED"].get(usize::from(mode)).copied().unwrap_or("unknown")
+    name_of(&DECRYPTION_MODES, mode).unwrap_or("unknown")
 }
 
 fn decision_name(decision: u8) -> &'static str {
-    ["clear", "external", "encrypted"].get(usize::from(decision)).copied().unwrap_or("unknown")
+    WRITTEN.get(usize::from(decision)).copied().unwrap_or("unknown")
 }
 
 /// A Set Data Encryption page of at least 20 bytes, in words.
@@ -399,7 +383,7 @@ fn page_words(page: &[u8]) -> String {
 /// Bytes in hex; zeros at the end are counted, and a long page is cut.
 fn bytes_words(page: &[u8]) -> String {
     let end = page.iter().rposition(|&byte| byte != 0).map_or(0, |last| last + 1);
-    let shown: Vec<String> = page[..end.min(28)].iter().map(|byte| format!("{byte:02X}")).collect();
+    let shown = hex::words(&page[..end.min(28)]);
     let rest = match (end > 28, page.len() - end) {
         (true, _) => format!(" and {} more", page.len() - 28),
         (false, 0) => String::new(),

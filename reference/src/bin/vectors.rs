@@ -11,7 +11,7 @@ mod pipe;
 mod vector_file;
 
 use pipe::Pipe;
-use reference::answer::when;
+use reference::answer_words::when;
 use reference::stream::Drive;
 use std::process::ExitCode;
 

@@ -3,12 +3,13 @@
 mod ceem_cases;
 mod difference;
 mod directed;
-mod numbers;
+pub mod numbers;
 mod other_drive;
 pub mod page_builder;
 mod random;
 mod reached;
 pub mod record_builder;
+pub mod recordings;
 mod report;
 pub mod session;
 mod shrink;
@@ -20,6 +21,8 @@ use other_drive::OtherDrive;
 use random::RandomSessions;
 use reached::Reached;
 use session::Session;
+use std::sync::mpsc::{sync_channel, Receiver};
+use std::thread;
 use std::time::{Duration, Instant};
 
 /// The calls sent before their replies are taken.
@@ -71,7 +74,7 @@ pub fn run(settings: &Settings) -> bool {
     };
     let start = Instant::now();
     if settings.directed {
-        directed::sessions(&mut |session| comparison.take(session));
+        comparison.directed_sessions();
     }
     if settings.random {
         comparison.random_sessions();
@@ -82,7 +85,28 @@ pub fn run(settings: &Settings) -> bool {
     comparison.conclude(time)
 }
 
+/// The directed sessions, made beside the comparison. Those that nobody takes any more are let go.
+fn directed_sessions() -> Receiver<Session> {
+    let (sender, sessions) = sync_channel(BATCH);
+    thread::spawn(move || {
+        directed::sessions(&mut |session| {
+            let _ = sender.send(session);
+        });
+    });
+    sessions
+}
+
 impl Comparison<'_> {
+    /// The directed sessions, up to a difference.
+    fn directed_sessions(&mut self) {
+        for session in directed_sessions() {
+            self.take(session);
+            if self.failure.is_some() {
+                break;
+            }
+        }
+    }
+
     /// Random sessions until the number of calls is reached.
     fn random_sessions(&mut self) {
         let mut sessions = RandomSessions::new(self.settings.seed);

@@ -1,7 +1,7 @@
 //! Set Data Encryption pages and status pages as the comparison sends them, and edits that damage them.
 
 use super::numbers::Numbers;
-use crate::codes::{ceem, decryption, encryption, scope};
+use crate::codes::{ceem, decryption, encryption, scope, ALGORITHM};
 use crate::sizes::KEY_BYTES;
 
 /// The fields of a Set Data Encryption page in order; damage is done to its bytes.
@@ -17,6 +17,7 @@ pub struct SetPage {
     pub ckorl: bool,
     pub encryption: u8,
     pub decryption: u8,
+    pub algorithm: u8,
     pub key: Vec<u8>,
     pub list: Vec<u8>,
 }
@@ -35,6 +36,7 @@ impl SetPage {
             ckorl: false,
             encryption: encryption::ENCRYPT,
             decryption: decryption::DECRYPT,
+            algorithm: ALGORITHM,
             key: (1..=KEY_BYTES as u8).collect(),
             list: Vec::new(),
         }
@@ -85,7 +87,7 @@ impl SetPage {
         let bits = [self.sdk, self.ckod, self.ckorp, self.ckorl];
         let low = bits.iter().fold(0, |low, &bit| low << 1 | u8::from(bit));
         page.push(self.ceem << 6 | self.rdmc << 4 | low);
-        page.extend([self.encryption, self.decryption, 1, 0, 0]);
+        page.extend([self.encryption, self.decryption, self.algorithm, 0, 0]);
         page.extend([0; 7]);
         page.extend((self.key.len() as u16).to_be_bytes());
         page.extend(&self.key);

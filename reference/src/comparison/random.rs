@@ -7,7 +7,7 @@ use super::session::{
     event, event_of, load, load_bytes, power_on, read, read_status, security_in, security_out,
     vendor_release, write, Session,
 };
-use crate::codes::{decryption, encryption, opening_key, scope};
+use crate::codes::{decryption, encryption, opening_key, scope, ALGORITHM};
 use crate::record_bytes::{self, COUNTER_BYTES, NEXUS_BYTES, PLACE_BYTES};
 use crate::sizes::{KEY_BYTES, NEXUSES, PLACES};
 use crate::stream::{kind, Command, Drive};
@@ -41,6 +41,19 @@ impl RandomSessions {
             commands.push(command);
         }
         Session { name: "random".to_string(), commands }
+    }
+
+    /// So many commands from power-on, of those that come out of `fit`.
+    pub fn commands(&mut self, count: usize, fit: impl Fn(Command) -> Option<Command>) -> Vec<Command> {
+        self.shadow = Drive::new();
+        let mut commands = Vec::with_capacity(count);
+        while commands.len() < count {
+            if let Some(command) = fit(self.command()) {
+                self.shadow.answer(&command);
+                commands.push(command);
+            }
+        }
+        commands
     }
 
     /// Power-on, a well-formed record, or a damaged one.
@@ -228,6 +241,7 @@ impl RandomSessions {
             ckorl: numbers.percent(50),
             encryption,
             decryption,
+            algorithm: ALGORITHM,
             key,
             list: if encrypts { random_list(numbers) } else { Vec::new() },
         }

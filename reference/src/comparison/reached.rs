@@ -255,7 +255,7 @@ impl Reached {
     }
 
     /// How often something was reached.
-    fn count_of(&self, item: Item) -> u64 {
+    pub fn count_of(&self, item: Item) -> u64 {
         match item {
             Item::SetPageByte(byte, value) => {
                 self.page_bytes.get(&byte).map_or(0, |counts| counts[usize::from(value)])
@@ -265,7 +265,7 @@ impl Reached {
     }
 
     /// Everything a run has to come to.
-    fn wanted() -> Vec<Item> {
+    pub fn wanted() -> Vec<Item> {
         let mut wanted: Vec<Item> = (0..=17).map(Item::Answer).collect();
         wanted.push(Item::Answer(255));
         for (kind, answers) in KIND_ANSWERS {
@@ -302,16 +302,16 @@ impl Reached {
         wanted
     }
 
-    /// What was never reached; without directed sessions nobody asks for all values.
-    fn missing(&self, directed: bool) -> Vec<Item> {
-        let asked = |item: &Item| directed || !item.is_one_of_all_values();
-        Reached::wanted().into_iter().filter(asked).filter(|&item| self.count_of(item) == 0).collect()
+    /// The counts in words.
+    pub fn text(&self) -> String {
+        let pairs = self.page_rule_pairs.len();
+        self.text_of(Reached::wanted()) + &format!("pairs of rules of the page broken together: {pairs}\n")
     }
 
-    /// The counts in words, a line for each group.
-    pub fn text(&self) -> String {
+    /// The counts of some items in words, a line for each group.
+    pub fn text_of(&self, wanted: Vec<Item>) -> String {
         let mut groups: Vec<(Item, Vec<Item>)> = Vec::new();
-        for item in Reached::wanted() {
+        for item in wanted {
             match groups.last_mut() {
                 Some((first, items)) if first.group() == item.group() => items.push(item),
                 _ => groups.push((item, vec![item])),
@@ -330,15 +330,19 @@ impl Reached {
             };
             text.push_str(&format!("{}: {told}\n", first.group()));
         }
-        let pairs = self.page_rule_pairs.len();
-        text.push_str(&format!("pairs of rules of the page broken together: {pairs}\n"));
         text
     }
 
-    /// What was never reached, in words.
+    /// What was never reached, in words; without directed sessions nobody asks for all values.
     pub fn missing_text(&self, directed: bool) -> String {
+        let asked = |item: &Item| directed || !item.is_one_of_all_values();
+        self.missing_text_of(Reached::wanted().into_iter().filter(asked))
+    }
+
+    /// What of some items was never reached, in words.
+    pub fn missing_text_of(&self, wanted: impl Iterator<Item = Item>) -> String {
         let mut text = String::new();
-        for item in self.missing(directed) {
+        for item in wanted.filter(|&item| self.count_of(item) == 0) {
             text.push_str(&format!("    never reached: {}: {item}\n", item.group()));
         }
         text

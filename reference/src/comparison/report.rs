@@ -3,7 +3,9 @@
 use super::difference::{Difference, What};
 use super::other_drive::Trouble;
 use crate::account::Account;
-use crate::answer::when;
+use crate::answer_words::{sense_codes, when};
+use crate::hex;
+use crate::names::{name_of, CALLS};
 use crate::record_bytes::{field_name, RECORD_BYTES};
 use crate::stream::{kind, Command, Drive, Reply};
 use std::fmt::Write;
@@ -11,34 +13,21 @@ use std::fmt::Write;
 /// The name of a kind of command.
 pub fn kind_name(kind: u8) -> &'static str {
     match kind {
-        kind::POWER_ON => "power-on",
-        kind::IN => "IN",
-        kind::OUT => "OUT",
-        kind::WRITE => "write",
-        kind::LOGICAL_UNIT_RESET => "logical unit reset",
-        kind::DEMOUNT => "demount",
-        kind::NEXUS_RESERVATION_LOSS => "nexus reservation loss",
-        kind::DEVICE_RESERVATION_LOSS => "device reservation loss",
-        kind::PREEMPT => "preempt",
-        kind::MICROCODE => "microcode",
-        kind::VENDOR_RELEASE => "vendor release",
-        kind::READ => "read",
         kind::READ_STATUS => "status reader (253)",
         kind::LOAD_RECORD => "load record (254)",
         kind::GIVE_RECORD => "give record (255)",
-        _ => "unknown kind",
+        _ => name_of(&CALLS, kind).unwrap_or("unknown kind"),
     }
 }
 
 /// Bytes in rows of 16; a run of zeros to the end is told by its length.
-fn rows(bytes: &[u8]) -> String {
+pub fn rows(bytes: &[u8]) -> String {
     let end = bytes.iter().rposition(|&byte| byte != 0).map_or(0, |last| last + 1);
     let zeros = bytes.len() - end;
     let end = if zeros > 16 { end } else { bytes.len() };
     let mut text = String::new();
     for (row, part) in bytes[..end].chunks(16).enumerate() {
-        let part: Vec<String> = part.iter().map(|byte| format!("{byte:02X}")).collect();
-        let _ = writeln!(text, "        {:4}: {}", row * 16, part.join(" "));
+        let _ = writeln!(text, "        {:4}: {}", row * 16, hex::words(part).join(" "));
     }
     if end < bytes.len() {
         let _ = writeln!(text, "        {:4}: {} zeros", end, bytes.len() - end);
@@ -101,7 +90,7 @@ fn load_text(command: &Command) -> String {
 }
 
 /// A record's bytes by field.
-fn fields(record: &[u8]) -> Vec<(String, Vec<u8>)> {
+pub fn fields(record: &[u8]) -> Vec<(String, Vec<u8>)> {
     let mut fields: Vec<(String, Vec<u8>)> = Vec::new();
     for (offset, &byte) in record.iter().enumerate() {
         let name = field_name(offset);
@@ -115,11 +104,11 @@ fn fields(record: &[u8]) -> Vec<(String, Vec<u8>)> {
 
 /// A reply in words.
 fn reply_text(reply: &Reply) -> String {
-    let [key, code, qualifier] = reply.sense;
     format!(
-        "answer {} ({}), sense {key:X}/{code:02X}/{qualifier:02X}, {} bytes\n{}",
+        "answer {} ({}), sense {}, {} bytes\n{}",
         reply.number,
         when(reply.number),
+        sense_codes(reply.sense),
         reply.data.len(),
         rows(&reply.data)
     )

@@ -1,4 +1,4 @@
-//! Tests of the reference against document 01, and requests 1 and 2 of document 02.
+//! Tests of the reference against document 01, and requests 1 to 3 of document 02.
 
 #![forbid(unsafe_code)]
 
@@ -11,6 +11,8 @@ mod given;
 mod page;
 mod reads;
 mod record_bytes;
+mod recording;
+mod replay;
 mod response_pages;
 mod status_page;
 mod stream;

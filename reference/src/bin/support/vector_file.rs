@@ -1,8 +1,10 @@
 //! The file of outside pages, vectors/pages.txt, and what each page is to come to.
 
 use reference::answer::{Refused, NO_SENSE};
+use reference::answer_words::sense_codes;
 use reference::codes::scope;
 use reference::comparison::session::{give_record, power_on, security_out};
+use reference::hex;
 use reference::record::{Kad, Record, Set};
 use reference::record_bytes;
 use reference::sizes::{KEY_BYTES, PLACES};
@@ -72,8 +74,8 @@ fn read_block(block: &[&str]) -> Result<Vector, String> {
 
 /// Bytes in hex with spaces between them.
 fn bytes(text: &str) -> Result<Vec<u8>, String> {
-    let byte = |part: &str| u8::from_str_radix(part, 16).map_err(|_| format!("\"{part}\" is no byte"));
-    text.split_whitespace().map(byte).collect()
+    let bytes = |part: &str| hex::read(part).ok_or_else(|| format!("\"{part}\" is no byte"));
+    text.split_whitespace().map(bytes).collect::<Result<Vec<_>, _>>().map(|bytes| bytes.concat())
 }
 
 /// Key-associated data in hex.
@@ -147,8 +149,7 @@ impl Vector {
         let refused = Refused::EVERY.into_iter().find(|refused| refused.number() == self.answer);
         let sense = refused.map_or(NO_SENSE, Refused::sense);
         if (reply.number, reply.sense) != (self.answer, sense) || !reply.data.is_empty() {
-            let [key, asc, ascq] = reply.sense;
-            return Ok(Some(format!("answer {} with sense {key:X}/{asc:02X}/{ascq:02X}", reply.number)));
+            return Ok(Some(format!("answer {} with sense {}", reply.number, sense_codes(reply.sense))));
         }
         let bytes = ask(&give_record())?.data;
         let expected = record_bytes::give(&self.record());

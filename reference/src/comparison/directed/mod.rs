@@ -19,6 +19,11 @@ mod writes;
 
 use super::session::Sink;
 
+/// P1 to P10 of 01.
+pub fn examples(sink: &mut Sink) {
+    examples::sessions(sink);
+}
+
 /// Every directed session.
 pub fn sessions(sink: &mut Sink) {
     examples::sessions(sink);

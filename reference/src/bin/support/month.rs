@@ -1,0 +1,115 @@
+//! The month: the recording of a small archive's month, event by event, held against the comments of its text.
+
+use crate::comments::{comments, holds, said, WRITTEN};
+use crate::files::{print, read, read_recording, shown, Ended};
+use crate::{is_plain, sense_of, Play, Played};
+use reference::comparison::session::power_on;
+use reference::recording::{answer_bytes, Event, Recording};
+use reference::script::{make, told};
+use reference::stream::{kind, Reply};
+use std::path::Path;
+
+const RECORDING: &str = "examples/month.rec";
+const TEXT: &str = "examples/month.txt";
+
+/// The recording, and what its text says is to come of each event.
+pub struct Month {
+    recording: Recording,
+    comments: Vec<String>,
+}
+
+impl Month {
+    /// Reads both files in the repository's root. A wrong or missing one is a line, with status 1.
+    pub fn read(root: &str) -> Result<Month, Ended> {
+        let [file, script] = [RECORDING, TEXT].map(|name| Path::new(root).join(name).into_os_string());
+        let refused = |ended: Ended| Ended::refused(ended.line);
+        let recording = read_recording(&file).map_err(refused)?;
+        let text = String::from_utf8(read(&script).map_err(refused)?)
+            .map_err(|_| Ended::refused(format!("{} is no text in UTF-8", shown(&script))))?;
+        let made = make(&text)
+            .map_err(|fault| Ended::refused(format!("{}:{}: {}", shown(&script), fault.line, fault.what)))?;
+        let comments = comments(&text);
+        if made != recording || comments.len() != recording.events.len() {
+            let line = format!("{} is not the text of {}, a line an event", shown(&script), shown(&file));
+            return Err(Ended::refused(line));
+        }
+        Ok(Month { recording, comments })
+    }
+}
+
+impl Play {
+    /// Plays the month and tells each event that isn't answered 0, and the counts.
+    pub fn month(&mut self, Month { recording, comments }: &Month) -> Played {
+        self.step = "the month";
+        say(&format!(
+            "\nThe month of a small archive ({RECORDING}): what is not answered 0, as {TEXT} tells it\n"
+        ))?;
+        let reply = self.pipe.ask(&power_on())?;
+        self.check(is_plain(&reply, 0), "answer 0 for power-on");
+        let mut replies = Vec::new();
+        let mut trouble = None;
+        for event in &recording.events {
+            match self.pipe.ask(&recording.command(event)) {
+                Ok(reply) => replies.push(reply),
+                Err(fault) => {
+                    trouble = Some(format!("event {}: {fault}", replies.len()));
+                    break;
+                }
+            }
+        }
+        let answers: Vec<u8> = replies.iter().flat_map(answer_bytes).collect();
+        let told = told(recording, &answers);
+        let events = recording.events.iter().zip(&replies).zip(comments);
+        for (line, ((event, reply), comment)) in told.lines().zip(events) {
+            let difference = difference(comment, reply, event);
+            if reply.number != 0 || difference.is_some() {
+                say(&format!("  {line}\n"))?;
+            }
+            if let Some(difference) = difference {
+                self.differs(&difference);
+            }
+        }
+        match trouble {
+            Some(trouble) => Err(trouble),
+            None => say(&format!("  {}\n", counts(&recording.events, &replies))),
+        }
+    }
+}
+
+fn say(text: &str) -> Played {
+    print(text).map_err(|ended| ended.line)
+}
+
+/// How a reply differs from the comment, or from the sense and the data of such an answer.
+fn difference(comment: &str, reply: &Reply, event: &Event) -> Option<String> {
+    if !holds(comment, reply, event) {
+        let (word, place) = said(reply, event);
+        let place = place.map_or(String::new(), |place| format!(", place {place}"));
+        return Some(format!("{TEXT} says {comment}; it is {word}{place}"));
+    }
+    let has_its_data = match (event.kind, reply.number) {
+        // the page's full length, and a lent buffer of no bytes
+        (kind::IN, 0) => reply.data.len() == 2,
+        (kind::IN, _) => reply.data == [0, 0],
+        (kind::WRITE, 0) => reply.data.len() == 3,
+        (kind::READ, 0) => reply.data.len() == 2,
+        _ => reply.data.is_empty(),
+    };
+    let same = has_its_data && reply.sense == sense_of(reply.number);
+    (!same).then(|| format!("answer {} has other sense or data", reply.number))
+}
+
+/// How many events were answered 0 and refused, and what became of the writes.
+fn counts(events: &[Event], replies: &[Reply]) -> String {
+    let refused = replies.iter().filter(|reply| reply.number != 0).count();
+    let writes = events.iter().zip(replies).filter(|(event, _)| event.kind == kind::WRITE);
+    let words: Vec<String> = writes.clone().map(|(event, reply)| said(reply, event).0).collect();
+    let [clear, external, encrypted] = WRITTEN.map(|name| words.iter().filter(|word| *word == name).count());
+    let stopped = writes.filter(|(_, reply)| reply.number != 0).count();
+    format!(
+        "{} events: {} answered 0, {refused} refused; \
+         writes: {encrypted} encrypted, {external} external, {clear} clear, {stopped} refused",
+        events.len(),
+        replies.len() - refused,
+    )
+}

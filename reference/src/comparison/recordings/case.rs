@@ -1,0 +1,135 @@
+//! The recordings that are tried, by name.
+
+use std::fmt;
+
+/// What a recording is about.
+#[derive(Clone, Copy, PartialEq, Eq, PartialOrd, Ord, Debug)]
+pub enum Group {
+    Under8Bytes,
+    Total,
+    CutOrLengthened,
+    FirstOffset,
+    PageBytesOffset,
+    EventCount,
+    CountAndOffset,
+    NumbersThatWrap,
+    LittleEndian,
+    PartEvent,
+    KindAbove11,
+    SupportFlag,
+    UnusedField,
+    PagePastEnd,
+    TooLong,
+    TwoWrongThings,
+    SoundNeighbour,
+    NoEvents,
+    OddPages,
+    NumbersLeftToCalls,
+    Largest,
+    Examples,
+    Sessions,
+    RandomSound,
+    RandomHeader,
+    RandomEvent,
+    RandomPageBounds,
+    RandomCut,
+    RandomLengthened,
+    RandomBit,
+    RandomEventMoved,
+}
+
+impl Group {
+    /// Every group with the number of differently named recordings that a run has to try.
+    pub const EVERY: [(Group, usize); 31] = [
+        (Group::Under8Bytes, 33),
+        (Group::Total, 30),
+        (Group::CutOrLengthened, 13),
+        (Group::FirstOffset, 24),
+        (Group::PageBytesOffset, 27),
+        (Group::EventCount, 15),
+        (Group::CountAndOffset, 20),
+        (Group::NumbersThatWrap, 14),
+        (Group::LittleEndian, 3),
+        (Group::PartEvent, 21),
+        (Group::KindAbove11, 258),
+        (Group::SupportFlag, 12),
+        (Group::UnusedField, 192),
+        (Group::PagePastEnd, 68),
+        (Group::TooLong, 17),
+        (Group::TwoWrongThings, 105),
+        (Group::SoundNeighbour, 17),
+        (Group::NoEvents, 7),
+        (Group::OddPages, 14),
+        (Group::NumbersLeftToCalls, 17),
+        (Group::Largest, 8),
+        (Group::Examples, 10),
+        (Group::Sessions, 4),
+        (Group::RandomSound, 1),
+        (Group::RandomHeader, 4),
+        (Group::RandomEvent, 5),
+        (Group::RandomPageBounds, 2),
+        (Group::RandomCut, 1),
+        (Group::RandomLengthened, 1),
+        (Group::RandomBit, 1),
+        (Group::RandomEventMoved, 1),
+    ];
+
+    /// Whether it is of the random part.
+    pub fn is_random(self) -> bool {
+        self >= Group::RandomSound
+    }
+}
+
+impl fmt::Display for Group {
+    fn fmt(&self, formatter: &mut fmt::Formatter) -> fmt::Result {
+        formatter.write_str(match self {
+            Group::Under8Bytes => "under 8 bytes",
+            Group::Total => "total not the length",
+            Group::CutOrLengthened => "length not the total",
+            Group::FirstOffset => "offset of the first event not 8",
+            Group::PageBytesOffset => "offset of the page bytes off",
+            Group::EventCount => "event count off",
+            Group::CountAndOffset => "event count and offset of the page bytes moved together",
+            Group::NumbersThatWrap => "header numbers right but for a multiple of 65,536",
+            Group::LittleEndian => "header's numbers little-endian",
+            Group::PartEvent => "a part event",
+            Group::KindAbove11 => "kinds 12 to 255",
+            Group::SupportFlag => "support flag above 1",
+            Group::UnusedField => "unused field not zero",
+            Group::PagePastEnd => "page past the page bytes",
+            Group::TooLong => "65,536 bytes and more",
+            Group::TwoWrongThings => "two wrong things",
+            Group::SoundNeighbour => "sound neighbours of wrong files",
+            Group::NoEvents => "no events",
+            Group::OddPages => "odd pages that aren't wrong",
+            Group::NumbersLeftToCalls => "numbers left to the calls",
+            Group::Largest => "the largest recordings",
+            Group::Examples => "P1 to P10",
+            Group::Sessions => "sessions",
+            Group::RandomSound => "random, sound",
+            Group::RandomHeader => "random, a header number changed",
+            Group::RandomEvent => "random, a field of an event changed",
+            Group::RandomPageBounds => "random, a page at the bounds",
+            Group::RandomCut => "random, cut",
+            Group::RandomLengthened => "random, lengthened",
+            Group::RandomBit => "random, bits flipped",
+            Group::RandomEventMoved => "random, an event dropped, doubled or swapped",
+        })
+    }
+}
+
+/// A recording to be tried.
+#[derive(Clone, Debug)]
+pub struct Case {
+    pub group: Group,
+    pub name: String,
+    pub file: Vec<u8>,
+}
+
+/// Where recordings go.
+pub type Sink<'sink> = dyn FnMut(Case) + 'sink;
+
+/// Hands a recording over.
+pub fn put(sink: &mut Sink, group: Group, name: impl Into<String>, file: Vec<u8>) {
+    sink(Case { group, name: name.into(), file });
+}

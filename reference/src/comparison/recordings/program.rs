@@ -1,0 +1,72 @@
+//! The other replayer as a program that takes a recording on its standard input, started anew for each.
+
+use super::replayer::{Given, Outcome, Replayer, Way};
+use std::io::{self, Read, Write};
+use std::process::{Child, Command, Stdio};
+use std::sync::mpsc::{channel, Receiver};
+use std::thread;
+use std::time::{Duration, Instant};
+
+/// How long a program may take over one recording.
+const PATIENCE: Duration = Duration::from_secs(30);
+
+/// A program and its arguments; for the record `--record` is appended.
+pub struct Program<'parts>(pub &'parts [String]);
+
+impl Replayer for Program<'_> {
+    fn replay(&self, file: &[u8], way: Way) -> Outcome {
+        let option = match way {
+            Way::Answers => None,
+            Way::Record => Some("--record"),
+        };
+        match self.start(option).map(|child| converse(child, file)) {
+            Ok(outcome) => outcome,
+            Err(error) => Outcome::Nothing(format!("it can't be started: {error}")),
+        }
+    }
+}
+
+impl Program<'_> {
+    /// Starts the program.
+    fn start(&self, option: Option<&str>) -> io::Result<Child> {
+        Command::new(&self.0[0])
+            .args(&self.0[1..])
+            .args(option)
+            .stdin(Stdio::piped())
+            .stdout(Stdio::piped())
+            .stderr(Stdio::piped())
+            .spawn()
+    }
+}
+
+/// Gives a program the file and takes what it writes. Threads write and read, so that neither side waits for ever; a
+/// program may leave a part of its input unread.
+fn converse(mut child: Child, file: &[u8]) -> Outcome {
+    let mut input = child.stdin.take().expect("its input is a pipe");
+    let output = collect(child.stdout.take().expect("its output is a pipe"));
+    let errors = collect(child.stderr.take().expect("its errors are a pipe"));
+    let file = file.to_vec();
+    thread::spawn(move || input.write_all(&file));
+    let end = Instant::now() + PATIENCE;
+    let in_time =
+        |bytes: Receiver<Vec<u8>>| bytes.recv_timeout(end.saturating_duration_since(Instant::now())).ok();
+    let outcome = match (in_time(output), in_time(errors)) {
+        (Some(output), Some(errors)) => Outcome::Given(Given { output, errors }),
+        _ => Outcome::Nothing("its output has no end in time".to_string()),
+    };
+    let _ = child.kill();
+    let _ = child.wait();
+    outcome
+}
+
+/// All the bytes of a pipe, once it ends.
+fn collect(mut pipe: impl Read + Send + 'static) -> Receiver<Vec<u8>> {
+    let (sender, receiver) = channel();
+    thread::spawn(move || {
+        let mut bytes = Vec::new();
+        if pipe.read_to_end(&mut bytes).is_ok() {
+            let _ = sender.send(bytes);
+        }
+    });
+    receiver
+}

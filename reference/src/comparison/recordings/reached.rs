@@ -1,0 +1,224 @@
+//! What the recordings came to, counted: a run that never came to something on the list fails.
+
+use super::builder::requests;
+use super::case::{Case, Group};
+use crate::account::Rule;
+use crate::comparison::reached::{Item, Reached as Calls};
+use crate::record::Record;
+use crate::recording::{broken_rules, run, Event, FileRule, Recording, LONGEST, MOST_EVENTS};
+use crate::stream::kind;
+use std::collections::{BTreeMap, BTreeSet};
+
+/// So many draws that numbers fill more than a byte, as a recording has room for.
+const MANY_DRAWS: u32 = 4096;
+
+/// A shape of a sound recording.
+#[derive(Clone, Copy, PartialEq, Eq, PartialOrd, Ord, Debug)]
+enum Shape {
+    RequestsFile,
+    NoEvents,
+    NoEventsButPageBytes,
+    PageOfNoBytes,
+    PageOfNoBytesAtTheEnd,
+    PageToTheEnd,
+    OverlappingPages,
+    EqualPages,
+    UnusedPageBytes,
+    PowerOnInTheMiddle,
+    MostEvents,
+    MostBytes,
+    ManyDraws,
+}
+
+impl Shape {
+    const EVERY: [Shape; 13] = [
+        Shape::RequestsFile,
+        Shape::NoEvents,
+        Shape::NoEventsButPageBytes,
+        Shape::PageOfNoBytes,
+        Shape::PageOfNoBytesAtTheEnd,
+        Shape::PageToTheEnd,
+        Shape::OverlappingPages,
+        Shape::EqualPages,
+        Shape::UnusedPageBytes,
+        Shape::PowerOnInTheMiddle,
+        Shape::MostEvents,
+        Shape::MostBytes,
+        Shape::ManyDraws,
+    ];
+
+    /// Whether a recording with this record at the end has the shape.
+    fn is_of(self, recording: &Recording, end_record: &Record) -> bool {
+        let Recording { events, page_bytes } = recording;
+        let pages = pages(events);
+        let end = page_bytes.len();
+        let overlaps = |(one, other): (&(usize, usize), &(usize, usize))| one != other && other.0 < one.1;
+        match self {
+            Shape::RequestsFile => *recording == requests(),
+            Shape::NoEvents => events.is_empty() && end == 0,
+            Shape::NoEventsButPageBytes => events.is_empty() && end > 0,
+            Shape::PageOfNoBytes => pages.iter().any(|page| page.0 == page.1 && page.1 < end),
+            Shape::PageOfNoBytesAtTheEnd => pages.contains(&(end, end)),
+            Shape::PageToTheEnd => pages.iter().any(|page| page.0 < page.1 && page.1 == end),
+            Shape::OverlappingPages => pages.iter().zip(pages.iter().skip(1)).any(overlaps),
+            Shape::EqualPages => pages.iter().zip(pages.iter().skip(1)).any(|(one, other)| one == other),
+            Shape::UnusedPageBytes => covered(&pages) < end,
+            Shape::PowerOnInTheMiddle => events.iter().skip(1).any(|event| event.kind == kind::POWER_ON),
+            Shape::MostEvents => events.len() == MOST_EVENTS,
+            Shape::MostBytes => recording.bytes().len() == LONGEST,
+            Shape::ManyDraws => end_record.counter >= MANY_DRAWS,
+        }
+    }
+}
+
+/// The start and the end of each page, in order.
+fn pages(events: &[Event]) -> Vec<(usize, usize)> {
+    let outs = events.iter().filter(|event| event.kind == kind::OUT);
+    let start_and_end = |event: &Event| {
+        let start = usize::from(event.page_offset);
+        (start, start + usize::from(event.page_length))
+    };
+    let mut pages: Vec<_> = outs.map(start_and_end).collect();
+    pages.sort();
+    pages
+}
+
+/// How many page bytes some page covers.
+fn covered(pages: &[(usize, usize)]) -> usize {
+    let (mut covered, mut reached) = (0, 0);
+    for &(start, end) in pages {
+        covered += end.saturating_sub(start.max(reached));
+        reached = reached.max(end);
+    }
+    covered
+}
+
+/// The counts.
+#[derive(Default)]
+pub struct Reached {
+    pub recordings: u64,
+    refused: u64,
+    groups: BTreeMap<Group, (u64, BTreeSet<String>)>,
+    broken: BTreeMap<FileRule, u64>,
+    broken_alone: BTreeMap<FileRule, u64>,
+    shapes: BTreeMap<Shape, u64>,
+    calls: Calls,
+}
+
+impl Reached {
+    /// Counts a recording and, where it is sound, the calls of its replay.
+    pub fn count(&mut self, case: &Case) {
+        self.recordings += 1;
+        let (count, names) = self.groups.entry(case.group).or_default();
+        *count += 1;
+        names.insert(case.name.clone());
+        match Recording::read(&case.file) {
+            Some(recording) => self.count_sound(&recording),
+            None => self.count_wrong(&broken_rules(&case.file)),
+        }
+    }
+
+    /// Counts a sound recording's shapes and calls.
+    fn count_sound(&mut self, recording: &Recording) {
+        let end_record = run(recording, |moment| {
+            self.calls.count(moment.command, moment.before, moment.reply, moment.drive.account());
+        });
+        for shape in Shape::EVERY.into_iter().filter(|shape| shape.is_of(recording, &end_record)) {
+            *self.shapes.entry(shape).or_default() += 1;
+        }
+    }
+
+    /// Counts the rules that a file breaks.
+    fn count_wrong(&mut self, broken: &[FileRule]) {
+        self.refused += 1;
+        for &rule in broken {
+            *self.broken.entry(rule).or_default() += 1;
+        }
+        if let [rule] = broken {
+            *self.broken_alone.entry(*rule).or_default() += 1;
+        }
+    }
+
+    /// The counts in words.
+    pub fn text(&self) -> String {
+        let mut text = format!("recordings: {} taken, ", self.recordings - self.refused);
+        text += &format!("{} refused; {} calls replayed\n", self.refused, self.calls.calls);
+        for (group, _) in Group::EVERY {
+            let (count, names) = self.of_group(group);
+            text += &format!("{group}: {count}, of {names} names\n");
+        }
+        text += &counts_text("rules of the file broken", FileRule::EVERY, &self.broken);
+        text += &counts_text("rules of the file broken alone", FileRule::EVERY, &self.broken_alone);
+        text += &counts_text("shapes of sound recordings", Shape::EVERY, &self.shapes);
+        text + &self.calls.text_of(calls_wanted())
+    }
+
+    /// The recordings of a group, and how many of them have different names.
+    fn of_group(&self, group: Group) -> (u64, usize) {
+        self.groups.get(&group).map_or((0, 0), |(count, names)| (*count, names.len()))
+    }
+
+    /// What was never reached, in words; the random groups are asked for only where there are random recordings.
+    pub fn missing_text(&self, random: bool) -> String {
+        let mut text = String::new();
+        for (group, wanted) in Group::EVERY.into_iter().filter(|(group, _)| random || !group.is_random()) {
+            let (_, names) = self.of_group(group);
+            if names < wanted {
+                text += &format!("    never reached: {group}: {names} of {wanted} names\n");
+            }
+        }
+        text += &missing_in("rules of the file broken", FileRule::EVERY, &self.broken);
+        text += &missing_in("rules of the file broken alone", FileRule::EVERY, &self.broken_alone);
+        text += &missing_in("shapes of sound recordings", Shape::EVERY, &self.shapes);
+        text + &self.calls.missing_text_of(calls_wanted().into_iter())
+    }
+}
+
+/// Some counts in a line.
+fn counts_text<Counted: Ord + Copy + std::fmt::Debug, const COUNT: usize>(
+    title: &str,
+    every: [Counted; COUNT],
+    counts: &BTreeMap<Counted, u64>,
+) -> String {
+    let parts = every.map(|counted| format!("{counted:?}: {}", counts.get(&counted).copied().unwrap_or(0)));
+    format!("{title}: {}\n", parts.join(", "))
+}
+
+/// What has no count.
+fn missing_in<Counted: Ord + Copy + std::fmt::Debug, const COUNT: usize>(
+    title: &str,
+    every: [Counted; COUNT],
+    counts: &BTreeMap<Counted, u64>,
+) -> String {
+    let missing = every.iter().filter(|counted| !counts.contains_key(counted));
+    missing.map(|counted| format!("    never reached: {title}: {counted:?}\n")).collect()
+}
+
+/// What the calls of all replays have to come to: of what the drive's comparison asks for, all that can come after
+/// power-on by the twelve kinds of event.
+fn calls_wanted() -> Vec<Item> {
+    Calls::wanted().into_iter().filter(can_be_replayed).collect()
+}
+
+/// Whether a replay can come to it. From power-on a record is always well formed (answer 1), the protocol is 20h (5),
+/// the lent buffer has no bytes, 4,294,967,296 draws don't fit a recording, and two places have the same number only
+/// after the wrap. The tables of values are the drive's comparison's task.
+fn can_be_replayed(item: &Item) -> bool {
+    let answers = |number: &u8| !matches!(number, 1 | 5 | 255);
+    match item {
+        Item::Answer(number) => answers(number),
+        Item::KindAnswer(kind, number) => *kind <= kind::READ && answers(number),
+        Item::RuleAtWork(rule) => !matches!(
+            rule,
+            Rule::ProtocolNot20
+                | Rule::DrawWraps
+                | Rule::FlagsForPlaceAlone
+                | Rule::BufferOfPageLength
+                | Rule::BufferLongerThanPage
+        ),
+        Item::ClauseBroken(_) | Item::ClauseBrokenAlone(_) => false,
+        Item::StatusRuleBroken(_) | Item::StatusRuleBrokenAlone(_) | Item::StatusPageLength(_) => false,
+        Item::LentSize(_) | Item::SetPageByte(..) | Item::ReadCell(_) | Item::Ceem(_) => false,
+        _ => true,
+    }
+}

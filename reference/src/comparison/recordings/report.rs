@@ -1,0 +1,137 @@
+//! What is printed about a difference: the short recording in hex and in words, and both results.
+
+use super::case::Case;
+use super::replayer::{Difference, Outcome, Wanted, Way};
+use super::shrink::Short;
+use crate::answer_words::when;
+use crate::comparison::report::{fields, kind_name, rows};
+use crate::record_bytes::RECORD_BYTES;
+use crate::recording::{broken_rules, fields_of, parts, replay, Event, Header, ANSWER_BYTES};
+use crate::stream::kind;
+use std::fmt::Write;
+
+/// The most events and bytes that are written out.
+const MOST_EVENTS: usize = 100;
+const MOST_BYTES: usize = 4096;
+
+/// The whole report of a difference.
+pub fn difference_text(case: &Case, short: &Short) -> String {
+    let Short { file, difference } = short;
+    let mut text =
+        format!("DIFFERENCE in \"{}: {}\"; short recording of {} bytes", case.group, case.name, file.len());
+    let events = Header::read(file).and_then(|header| parts(&header, file));
+    if let Some((events, _)) = &events {
+        let _ = write!(text, " and {} events", events.len());
+    }
+    let _ = write!(text, ":\n{}", rows(&file[..file.len().min(MOST_BYTES)]));
+    text += &file_text(file);
+    text + &results_text(file, difference)
+}
+
+/// A file in words: the header, the events with the reference's answers, the rules that are broken.
+fn file_text(file: &[u8]) -> String {
+    let Some(header) = Header::read(file) else { return "  no header\n".to_string() };
+    let mut text = format!(
+        "  event count {}, first event at {}, page bytes at {}, total {}\n",
+        header.event_count, header.first_event, header.page_bytes, header.total
+    );
+    let Some((events, page_bytes)) = parts(&header, file) else {
+        text.push_str("  the file ends before its events do\n");
+        return text;
+    };
+    let answers = replay(file).answers;
+    let mut answers = answers.chunks(ANSWER_BYTES);
+    for (number, event) in events.iter().enumerate().take(MOST_EVENTS) {
+        let _ = write!(text, "  {number}. {}", event_text(event));
+        if let Some(answer) = answers.next() {
+            let _ = write!(text, "; the reference answers {} ({})", answer[0], when(answer[0]));
+        }
+        text.push('\n');
+    }
+    if events.len() > MOST_EVENTS {
+        let _ = writeln!(text, "  and {} events more", events.len() - MOST_EVENTS);
+    }
+    let _ = writeln!(text, "  {} page bytes", page_bytes.len());
+    text
+}
+
+/// An event in words.
+fn event_text(event: &Event) -> String {
+    let Event { nexus, argument, page_offset, page_length, .. } = event;
+    let mut text = format!("kind {} ({})", event.kind, kind_name(event.kind));
+    let fields = fields_of(event.kind);
+    if *nexus != 0 || fields.is_some_and(|fields| fields.nexus) {
+        let _ = write!(text, ", nexus {nexus}");
+    }
+    if *argument != 0 || fields.is_some_and(|fields| fields.argument) {
+        let _ = match event.kind {
+            kind::IN | kind::OUT => write!(text, ", page code {argument:04X}h"),
+            kind::WRITE => write!(text, ", support flag {argument}"),
+            kind::VENDOR_RELEASE => write!(text, ", place {argument}"),
+            kind::READ => write!(text, ", block kind {}, key {}", argument >> 8, argument & 0xFF),
+            _ => write!(text, ", argument {argument}"),
+        };
+    }
+    if (*page_offset, *page_length) != (0, 0) || fields.is_some_and(|fields| fields.page) {
+        let _ = write!(text, ", page of {page_length} bytes at {page_offset}");
+    }
+    text
+}
+
+/// Both results.
+fn results_text(file: &[u8], difference: &Difference) -> String {
+    let way = match difference.way {
+        Way::Answers => "the answers differ",
+        Way::Record => "the records at the end (--record) differ",
+    };
+    let mut text = format!("{way}:\n    reference: {}", wanted_text(&difference.wanted));
+    for rule in broken_rules(file) {
+        let _ = writeln!(text, "        the file breaks {rule:?}");
+    }
+    let _ = write!(text, "    other: {}", outcome_text(&difference.outcome));
+    if let (Way::Record, Wanted::Bytes(wanted), Outcome::Given(given)) =
+        (difference.way, &difference.wanted, &difference.outcome)
+    {
+        text += &record_text(wanted, &given.output);
+    }
+    text
+}
+
+/// What the reference gives, in words.
+fn wanted_text(wanted: &Wanted) -> String {
+    match wanted {
+        Wanted::Bytes(bytes) => bytes_text(bytes),
+        Wanted::Refusal(number) => format!("refused with {number}, nothing written\n"),
+    }
+}
+
+/// What the other program gave, in words.
+fn outcome_text(outcome: &Outcome) -> String {
+    match outcome {
+        Outcome::Nothing(why) => format!("{why}\n"),
+        Outcome::Given(given) if given.errors.is_empty() => bytes_text(&given.output),
+        Outcome::Given(given) => {
+            let errors = String::from_utf8_lossy(&given.errors);
+            format!("on standard error {:?}, and {}", errors.trim_end(), bytes_text(&given.output))
+        }
+    }
+}
+
+/// Answers or a record.
+fn bytes_text(bytes: &[u8]) -> String {
+    format!("{} bytes on standard output\n{}", bytes.len(), rows(&bytes[..bytes.len().min(MOST_BYTES)]))
+}
+
+/// The fields in which two records differ.
+fn record_text(reference: &[u8], other: &[u8]) -> String {
+    let mut text = String::new();
+    if other.len() != RECORD_BYTES {
+        return text;
+    }
+    for ((name, reference), (_, other)) in fields(reference).into_iter().zip(fields(other)) {
+        if reference != other {
+            let _ = writeln!(text, "    {name}: reference {reference:02X?}, other {other:02X?}");
+        }
+    }
+    text
+}

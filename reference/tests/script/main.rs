@@ -1,0 +1,44 @@
+//! Tests of recordings as text: docs/RECORDINGS.md, sentence by sentence.
+
+#![forbid(unsafe_code)]
+
+#[path = "../../src/bin/support/comments.rs"]
+mod comments;
+mod demo;
+mod document;
+mod events;
+mod examples;
+mod inverse;
+mod layout;
+mod programs;
+mod random_recordings;
+mod random_texts;
+mod refusals;
+mod set_page;
+mod unsound;
+
+use reference::recording::Recording;
+use reference::script::{make, show};
+
+/// The recording of a text that is right.
+fn recorded(text: &str) -> Recording {
+    make(text).unwrap_or_else(|fault| panic!("line {}: {}\n{text}", fault.line, fault.what))
+}
+
+/// The shown text of the recording that a text makes.
+fn shown(text: &str) -> String {
+    show(&recorded(text))
+}
+
+/// The line and the words of what is wrong with a text.
+fn refused(text: &str) -> (usize, String) {
+    let fault = make(text).err().unwrap_or_else(|| panic!("the text is taken: {text}"));
+    (fault.line, fault.what)
+}
+
+/// The events' bytes and the page bytes of a text's recording.
+fn parts(text: &str) -> (Vec<u8>, Vec<u8>) {
+    let recording = recorded(text);
+    let (file, events) = (recording.bytes(), 8 + 8 * recording.events.len());
+    (file[8..events].to_vec(), file[events..].to_vec())
+}

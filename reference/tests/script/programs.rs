@@ -1,0 +1,170 @@
+//! The programs `record` and `words`, with their statuses.
+
+use std::fs;
+use std::io::Write;
+use std::path::{Path, PathBuf};
+use std::process::{Command, Output, Stdio};
+
+const RECORD: &str = env!("CARGO_BIN_EXE_record");
+const WORDS: &str = env!("CARGO_BIN_EXE_words");
+
+/// A folder of its own for a test.
+pub fn folder(name: &str) -> PathBuf {
+    let folder = Path::new(env!("CARGO_TARGET_TMPDIR")).join(name);
+    let _ = fs::remove_dir_all(&folder);
+    fs::create_dir_all(&folder).expect("a folder can be made");
+    folder
+}
+
+/// Runs a program in a folder.
+pub fn run(program: &str, folder: &Path, arguments: &[&str], input: &[u8]) -> Output {
+    let mut child = Command::new(program)
+        .args(arguments)
+        .current_dir(folder)
+        .stdin(Stdio::piped())
+        .stdout(Stdio::piped())
+        .stderr(Stdio::piped())
+        .spawn()
+        .expect("the program starts");
+    // A program that doesn't read its input may have ended.
+    let _ = child.stdin.take().expect("its input is a pipe").write_all(input);
+    child.wait_with_output().expect("the program ends")
+}
+
+/// The status, standard output and standard error.
+pub fn outcome(output: &Output) -> (i32, String, String) {
+    let text = |bytes: &[u8]| String::from_utf8_lossy(bytes).into_owned();
+    (output.status.code().unwrap_or(-1), text(&output.stdout), text(&output.stderr))
+}
+
+fn record(folder: &Path, arguments: &[&str], input: &[u8]) -> (i32, String, String) {
+    outcome(&run(RECORD, folder, arguments, input))
+}
+
+/// The names in a folder.
+fn names(folder: &Path) -> Vec<String> {
+    let entries = fs::read_dir(folder).expect("the folder can be read");
+    let mut names: Vec<String> =
+        entries.map(|entry| entry.expect("an entry").file_name().to_string_lossy().into_owned()).collect();
+    names.sort();
+    names
+}
+
+#[test]
+fn a_text_becomes_a_file_and_a_file_a_text() {
+    let folder = folder("both");
+    fs::write(folder.join("a b.txt"), "Demount # x\n").expect("a text can be written");
+    assert_eq!(record(&folder, &["a b.txt", "-x"], b"").0, 2);
+    assert_eq!(record(&folder, &["--", "a b.txt", "-x"], b""), (0, String::new(), String::new()));
+    let file = [0x00, 0x01, 0x00, 0x08, 0x00, 0x10, 0x00, 0x10, 0x05, 0, 0, 0, 0, 0, 0, 0];
+    assert_eq!(fs::read(folder.join("-x")).expect("the file is there"), file);
+    assert_eq!(record(&folder, &["--show", "--", "-x"], b""), (0, "demount\n".to_string(), String::new()));
+    assert_eq!(record(&folder, &["--show", "-"], &file), (0, "demount\n".to_string(), String::new()));
+    assert_eq!(record(&folder, &["-", "y"], b"demount"), (0, String::new(), String::new()));
+    assert_eq!(fs::read(folder.join("y")).expect("the file is there"), file);
+    assert_eq!(names(&folder), ["-x", "a b.txt", "y"]);
+}
+
+#[test]
+fn a_wrong_script_changes_no_file() {
+    let folder = folder("wrong");
+    fs::write(folder.join("s"), "demount\nmount\n").expect("a text can be written");
+    let (status, output, error) = record(&folder, &["s", "f"], b"");
+    assert_eq!((status, output.as_str()), (1, ""));
+    assert!(error.starts_with("s:2: `mount` stands where a call"), "{error}");
+    assert_eq!(names(&folder), ["s"]);
+    fs::write(folder.join("f"), "before").expect("a file can be written");
+    let (status, _, error) = record(&folder, &["-", "f"], b"\xFF # \xFF\n");
+    assert!(status == 1 && error.starts_with("-:1: "), "{error}");
+    assert_eq!(fs::read(folder.join("f")).expect("the file is there"), b"before");
+    assert_eq!(record(&folder, &["-", "f"], b"# \xFF is no letter\n").0, 0);
+    assert_eq!(names(&folder), ["f", "s"]);
+}
+
+#[test]
+fn a_file_that_is_not_sound_is_refused_with_22() {
+    let folder = folder("unsound");
+    fs::write(folder.join("f"), [0, 1, 0, 8, 0, 16, 0, 16, 12, 0, 0, 0, 0, 0, 0, 0]).expect("a file");
+    let (status, output, error) = record(&folder, &["--show", "f"], b"");
+    assert_eq!((status, output.as_str()), (1, ""));
+    assert_eq!(error, "22 f: event 0, kind: 12, but the kinds are 0 to 11\n");
+    let (status, output, error) = outcome(&run(WORDS, &folder, &["f"], b""));
+    assert!(status == 1 && output.is_empty() && error.starts_with("22 "), "{error}");
+}
+
+#[test]
+fn bad_arguments_and_files_end_with_status_2() {
+    let folder = folder("arguments");
+    fs::write(folder.join("s"), "demount\n").expect("a text can be written");
+    fs::hard_link(folder.join("s"), folder.join("same")).expect("a link can be made");
+    fs::create_dir(folder.join("d")).expect("a folder can be made");
+    let wrong: [&[&str]; 17] = [
+        &[],
+        &["s"],
+        &["s", "f", "g"],
+        &["--show"],
+        &["--show", "s", "f"],
+        &["--shown", "s"],
+        &["-x", "s", "f"],
+        &["s", "-"],
+        &["none", "f"],
+        &["d", "f"],
+        &["s", "d"],
+        &["s", "none/f"],
+        &["s", "/dev/null"],
+        &["s", "s"],
+        &["s", "./s"],
+        &["s", "same"],
+        &["--show", "none"],
+    ];
+    for arguments in wrong {
+        let (status, output, error) = record(&folder, arguments, b"");
+        assert!(status == 2 && output.is_empty() && !error.is_empty(), "{arguments:?}: {status} {error}");
+    }
+    for arguments in [&["-x", "s"] as &[&str], &[]] {
+        assert!(record(&folder, arguments, b"").2.contains("usage: record SCRIPT FILE"));
+    }
+    assert_eq!(names(&folder), ["d", "s", "same"]);
+    assert_eq!(fs::read(folder.join("s")).expect("the text is there"), b"demount\n");
+    for option in ["-h", "--help"] {
+        let (status, output, error) = record(&folder, &[option], b"");
+        assert!(status == 0 && output.starts_with("usage: record") && error.is_empty());
+    }
+}
+
+#[test]
+fn a_file_behind_a_link_is_replaced_and_keeps_its_permissions() {
+    use std::os::unix::fs::{symlink, PermissionsExt};
+    let folder = folder("link");
+    fs::write(folder.join("f"), "before").expect("a file can be written");
+    fs::set_permissions(folder.join("f"), PermissionsExt::from_mode(0o640)).expect("they can be set");
+    symlink("f", folder.join("l")).expect("a link can be made");
+    assert_eq!(record(&folder, &["-", "l"], b"demount").0, 0);
+    assert!(folder.join("l").is_symlink());
+    let there = fs::metadata(folder.join("f")).expect("the file is there");
+    assert_eq!((there.len(), there.permissions().mode() & 0o777), (16, 0o640));
+    assert_eq!(names(&folder), ["f", "l"]);
+}
+
+#[test]
+fn words_tells_each_call_with_its_answer() {
+    let folder = folder("words");
+    let text = "power-on\nwrite nexus 3 supported\nout nexus 3 page 0010h public\n";
+    assert_eq!(record(&folder, &["-", "f"], text.as_bytes()).0, 0);
+    let answers = [0, 0, 0, 0, 11, 7, 0x2A, 0x13, 2, 0, 0, 0];
+    let (status, output, error) = outcome(&run(WORDS, &folder, &["f"], &answers));
+    let lines = "0  power-on -> 0 done\n\
+                 1  write nexus 3 supported -> 11 locked, and the key instance has changed (7/2A/13)\n\
+                 2  out nexus 3 page 0010h public -> 2 nexus above 15\n";
+    assert_eq!((status, output.as_str(), error.as_str()), (0, lines, ""));
+    for count in [0, 4, 8, 11, 13, 16] {
+        let (status, output, error) = outcome(&run(WORDS, &folder, &["f"], &vec![0; count]));
+        assert!(status == 1 && output.is_empty(), "{count}");
+        assert_eq!(error, format!("{count} bytes of answers for 3 events, which have 4 each\n"));
+    }
+    for arguments in [&[] as &[&str], &["f", "f"], &["-x"], &["-"], &["none"]] {
+        let (status, output, error) = outcome(&run(WORDS, &folder, arguments, b""));
+        assert!(status == 2 && output.is_empty() && !error.is_empty(), "{arguments:?}");
+    }
+    assert_eq!(run(WORDS, &folder, &["--help"], b"").status.code(), Some(0));
+}
