@@ -4,6 +4,9 @@
 
 #![forbid(unsafe_code)]
 
+#[path = "support/failures.rs"]
+mod failures;
+
 use reference::codes::{ceem, decryption, encryption, scope};
 use reference::comparison::session;
 use reference::record::{Nexus, Record, Set};
@@ -497,13 +500,5 @@ fn main() -> ExitCode {
         let (_, fault, _) = fault.expect("the fault has a name");
         return if faulty_drive(*fault).is_ok() { ExitCode::SUCCESS } else { ExitCode::FAILURE };
     }
-    let failures = failures();
-    for failure in &failures {
-        println!("FAILED: {failure}");
-    }
-    if failures.is_empty() {
-        ExitCode::SUCCESS
-    } else {
-        ExitCode::FAILURE
-    }
+    failures::told(&failures())
 }

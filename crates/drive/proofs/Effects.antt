@@ -37,7 +37,7 @@ use Rattle.drive.specs.declared.Ruling.{Ruling}
 use Rattle.drive.specs.declared.ReadDecision.{ReadDecision}
 use Rattle.drive.specs.Restoring.{plainKind, encryptedKind, noKey, underMode, notKnown, restored}
 use Rattle.drive.specs.RestoringClaims.{readNumber}
-use Rattle.drive.specs.Calls.{Call, powerUp, securityIn, securityOut, write, read, unitReset, happens, senderOf, isPowerUp}
+use Rattle.drive.specs.Calls.{Call, powerUp, securityIn, securityOut, write, read, unitReset, happens, senderOf}
 use Rattle.status.specs.Pages.{isOutPage}
 use Rattle.drive.specs.Checks.{answerIf, firstOf, pageChecked, check1, check10, instanceChanged, notUsable, heardOf, permitted, commandedOf, checks, recordCheck, answer, knownAnswer, answerWhere}
 use Rattle.drive.specs.Effects.{Effect, nothing, marks, takes, clears, releasing, restarts, doing, refusal, effectBy, effect}

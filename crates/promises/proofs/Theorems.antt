@@ -67,6 +67,8 @@ pub use Rattle.kept.proofs.Calls.{formed-after, unformed-stays}
 pub use Rattle.calls.proofs.Quietly.{quiet-still, in-found, write-found, read-found}
 -- What each kind asks of the drive.
 pub use Rattle.calls.proofs.Worked.{kind-0, kind-1, kind-2, kind-3, kind-4, kind-5, kind-6, kind-7, kind-8, kind-9, kind-10, kind-11}
+-- The call that each kind of event records, over every byte; and the numbers of a session as a whole.
+pub use Rattle.recording.proofs.Events.{event-0, event-1, event-2, event-3, event-4, event-5, event-6, event-7, event-8, event-9, event-10, event-11, verdicts-as-printed}
 -- Document 02, request 3: every wrong thing in a file, and what is not wrong; what each field of each kind may hold; the calls of a file.
 pub use Rattle.recording.proofs.Worked.{files, files-computed, fields, fields-computed, calls-computed}
 -- Replay takes a file exactly if it is sound, as document 02 words it.
@@ -83,7 +85,9 @@ pub use Rattle.session.proofs.Replayed.{answer-at}
 -- A recording cut after k events, its header put right, is taken, gives the first 4k bytes of the whole, and leaves the record that the
 -- first k events leave.
 pub use Rattle.session.proofs.Cut.{cut-as-whole}
--- Calls after calls: the record and the answers are those of the first, and then of the others from there.
+-- Calls after calls: the record and the answers are those of the first, and then of the others from there; and events after events are
+-- calls after calls.
+pub use Rattle.recording.proofs.Entries.{calls-append}
 pub use Rattle.session.proofs.OneByOne.{run-append, answers-append}
 -- Our single action frees "LOCAL there, or ALL for place 0", as document 01 words it.
 pub use Rattle.kept.proofs.Freed.{freed-as-worded}

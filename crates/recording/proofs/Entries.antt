@@ -8,7 +8,6 @@ use native.Mathlib.Omega.{arith}
 use lib.Dec.{eqb, eqb·zero-suc, eqb·suc-suc}
 use lib.ListN.{length, take, drop, length-append, length-take, length-drop, length-map, List·getD-append}
 use lib.Seq.{getD-take, drop-append-le}
-use Rattle.arrays.specs.Arrays.{all}
 use Rattle.arrays.proofs.Base.{cases, both, and-left, and-right}
 use Rattle.arrays.proofs.Laws.{all-cons, map-take, drop-take}
 use Rattle.wire.specs.Numbers.{byteAt}

@@ -1,5 +1,6 @@
 pub mod Entries
 pub mod Files
 pub mod Exactly
+pub mod Events
 pub mod Made
 pub mod Worked

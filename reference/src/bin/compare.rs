@@ -4,29 +4,26 @@
 
 #![forbid(unsafe_code)]
 
+#[path = "support/compared.rs"]
+mod compared;
+
+use compared::{clock_seed, compared};
 use reference::comparison::{run, Settings};
 use std::process::ExitCode;
-use std::time::{Duration, SystemTime, UNIX_EPOCH};
+use std::time::Duration;
 
 const USAGE: &str = "usage: compare [--seed N] [--calls N] [--directed | --random] [--patience SECONDS] \
                      program [argument ...]";
 
 fn main() -> ExitCode {
-    match settings(std::env::args().skip(1).collect()) {
-        Some(settings) if run(&settings) => ExitCode::SUCCESS,
-        Some(_) => ExitCode::FAILURE,
-        None => {
-            eprintln!("{USAGE}");
-            ExitCode::from(2)
-        }
-    }
+    compared(settings(std::env::args().skip(1).collect()), run, USAGE)
 }
 
 /// The settings the arguments ask for.
 fn settings(arguments: Vec<String>) -> Option<Settings> {
     let mut settings = Settings {
         program: Vec::new(),
-        seed: SystemTime::now().duration_since(UNIX_EPOCH).map_or(1, |time| time.as_secs()),
+        seed: clock_seed(),
         calls: 100_000,
         directed: false,
         random: false,

@@ -4,30 +4,22 @@
 
 #![forbid(unsafe_code)]
 
+#[path = "support/compared.rs"]
+mod compared;
+
+use compared::{clock_seed, compared};
 use reference::comparison::recordings::{run, Settings};
 use std::process::ExitCode;
-use std::time::{SystemTime, UNIX_EPOCH};
 
 const USAGE: &str = "usage: compare_recordings [--seed N] [--recordings N] program [argument ...]";
 
 fn main() -> ExitCode {
-    match settings(std::env::args().skip(1).collect()) {
-        Some(settings) if run(&settings) => ExitCode::SUCCESS,
-        Some(_) => ExitCode::FAILURE,
-        None => {
-            eprintln!("{USAGE}");
-            ExitCode::from(2)
-        }
-    }
+    compared(settings(std::env::args().skip(1).collect()), run, USAGE)
 }
 
 /// The settings the arguments ask for.
 fn settings(arguments: Vec<String>) -> Option<Settings> {
-    let mut settings = Settings {
-        program: Vec::new(),
-        seed: SystemTime::now().duration_since(UNIX_EPOCH).map_or(1, |time| time.as_secs()),
-        recordings: 2_000,
-    };
+    let mut settings = Settings { program: Vec::new(), seed: clock_seed(), recordings: 2_000 };
     let mut arguments = arguments.into_iter();
     while let Some(argument) = arguments.next() {
         match argument.as_str() {

@@ -3,6 +3,8 @@
 
 #![forbid(unsafe_code)]
 
+#[path = "../support/failures.rs"]
+mod failures;
 mod faults;
 mod files;
 mod replayer;
@@ -123,12 +125,5 @@ fn main() -> ExitCode {
         let here = [failures_without_fault(), failures_with_fault()].concat();
         [programs.join().expect("the thread ends"), here].concat()
     });
-    for failure in &failures {
-        println!("FAILED: {failure}");
-    }
-    if failures.is_empty() {
-        ExitCode::SUCCESS
-    } else {
-        ExitCode::FAILURE
-    }
+    failures::told(&failures)
 }
