@@ -8,5 +8,6 @@ pub mod RestoringTable
 pub mod CeemTable
 pub mod Same
 pub mod Seen
+pub mod Due
 pub mod Sending
 pub mod Table

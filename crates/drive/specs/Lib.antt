@@ -8,4 +8,5 @@ pub mod Outcomes
 pub mod Claims
 pub mod Refusals
 pub mod RestoringClaims
+pub mod Due
 pub mod Sending
