@@ -2,4 +2,5 @@ pub mod Base
 pub mod Counting
 pub mod Laws
 pub mod Loops
+pub mod Appending
 pub mod Worked

@@ -3,8 +3,7 @@
 use calls::Asked;
 use device_16::Device;
 use recording::ENTRY_SIZE;
-
-const ANSWERS: usize = 32760;
+use session::ANSWERS_MOST;
 
 // One call, with its check 1.
 fn call(d: Device, asked: Asked, page: &[u8]) -> Device {
@@ -79,7 +78,7 @@ fn play(way: u8, file: &[u8]) -> Device {
         return one_by_one(start, events, pages);
     }
     if way == 2 {
-        let mut answers = [0u8; ANSWERS];
+        let mut answers = [0u8; ANSWERS_MOST];
         let ran = session_16::replay(file, &mut answers);
         return ran.device;
     }

@@ -14,6 +14,7 @@ pub mod Latest
 -- 4. A whole history: cut at its latest power-on, then at the nexus's latest page.
 pub mod Cut
 pub mod Trails
+pub mod Draws
 -- 5. The theorem, effects that are no action, and P7 to P9.
 pub mod Demand
 pub mod NoAction

@@ -41,7 +41,7 @@ pub header-of-settles : SettlesAnswer 1 header-of-kinds.ps header-of-kinds.r hea
 header-of-settles κs a x y s t p q = same p q
 
 pub events-of-settles : SettlesPart 1 events-of-kinds.ps events-of-kinds.r (List ℕ) (λ κs x. now x) events-of.Post
-events-of-settles κs a x y s t p q = same p q
+events-of-settles κs a x y s t p q = same (p .0) (q .0)
 
 pub pages-of-settles : SettlesPart 1 pages-of-kinds.ps pages-of-kinds.r (List ℕ) (λ κs x. now x) pages-of.Post
 pages-of-settles κs a x y s t p q = same p q

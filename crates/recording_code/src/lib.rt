@@ -8,6 +8,8 @@ use recording::Header;
 use recording::PROTOCOL;
 use recording::Verdict;
 ghost use mathlib.Core.Path.{_≡_};
+ghost use Prim.Native.Nat.{_<_};
+ghost use lib.ListN.{length};
 ghost use Rattle.arrays.specs.Base.{if_then_else_};
 ghost use Rattle.recording.specs.Verdicts.{verdictNumber};
 ghost use Rattle.recording.specs.Forms.{formOf};
@@ -142,7 +144,7 @@ fn is_headed(file: &[u8]) -> bool
 
 // The bytes of a file's events.
 pub fn events_of(file: &[u8]) -> &[u8]
-    ensures { λ r. ⌜ now r ≡ eventBytes (now (file .entry)) ⌝ }
+    ensures { λ r. ⌜ (now r ≡ eventBytes (now (file .entry))) × (length (now r) < 65536) ⌝ }
 {
     let from = wire_code::word_at(file, 4);
     if from < HEADER_SIZE {

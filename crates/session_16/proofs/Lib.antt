@@ -1,3 +1,4 @@
 pub mod Sessions
+pub mod Playing
 pub mod Replaying
 pub mod Settled

@@ -1,92 +1,55 @@
--- A session replayed, event by event.
+-- A session replayed: answers stored, event by event.
 -- Assumes nothing.
 use Prim.Native.Nat.{ℕ, _+_, _*_, _≤_}
-use mathlib.Core.Path.{_≡_, sym, ap, ap₂, _∙_}
-use mathlib.Core.Bool.{Bool, true, _||_, or-false}
+use mathlib.Core.Path.{_≡_, ap, _∙_}
+use mathlib.Core.Bool.{Bool, true, _||_}
 use mathlib.Core.List.{List}
-use native.Mathlib.Omega.{arith}
 use lib.ListN.{length, drop}
 use lib.Seq.{sets}
 use Rattle.answer.specs.declared.Answer.{Answer}
 use Rattle.device.specs.Record.{State}
-use Rattle.device.specs.WellFormed.{wellFormed}
-use Rattle.drive.specs.Calls.{Call, isPowerUp}
 use Rattle.drive.specs.Checks.{answer, answerWhere}
-use Rattle.drive.specs.Effects.{effectBy}
-use Rattle.drive.specs.After.{byNumber, carriedOut}
-use Rattle.drive.proofs.Effects.{where-agrees}
-use Rattle.sizes_16.specs.Sizes.{nexusCount, placeCount}
 use Rattle.device_16.specs.Model.{state}
 use Rattle.drive_16.specs.Outcomes.{outcomeBy}
 use Rattle.drive_16.specs.declared.Outcome.{Outcome}
 use Rattle.calls.specs.Asking.{callOf, isPowerOn}
-use Rattle.calls.specs.Quiet.{senderNumber, quietly}
 use Rattle.calls.specs.declared.Asked.{Asked}
 use Rattle.calls.specs.declared.Quiet.{Quiet}
-use Rattle.calls.proofs.Quietly.{is-power, quietOf, quiet-still}
-use Rattle.calls_16.specs.Sights.{sighted}
-use Rattle.calls_16.specs.declared.Sight.{Sight}
-use Rattle.calls_16.proofs.Known.{quiet-found}
-use Rattle.recording.specs.Entries.{entryOf, eventAsked, eventPage, call}
+use Rattle.calls.proofs.Quietly.{quietOf}
+use Rattle.recording.specs.Entries.{entryOf, eventAsked, eventPage}
 use Rattle.recording.specs.declared.Entry.{Entry}
-use Rattle.session.proofs.Folds.{Adds, adds-more}
 use Rattle.session.proofs.Stores.{stores, length-stores}
 use Rattle.session.specs.Answers.{fourOf}
-use Rattle.kept.proofs.Calls.{formed-after}
-use Rattle.kept.proofs.Runs.{call-size}
+use Rattle.session_16.proofs.Playing.{Playing, next, quiet-answered, call-made, call-outcome, quiet-more, call-more}
 
--- the invariant of the loop: what is left to replay gives what all gives, the buffer keeps its length, and it is known whether the record
--- is well formed
+-- the invariant of the loop: answers are stored, and the buffer keeps its length
 pub record Replaying (pages events : List ℕ) (s₀ : State) (out₀ : List ℕ) (s : State) (out : List ℕ) (formed : Bool) (rest : List ℕ) (i : ℕ) : Type 0 where
-  pub adds : Adds stores pages events s₀ out₀ s out rest i
+  pub plays : Playing stores pages events s₀ out₀ s out formed rest i
   pub kept : length out ≡ length out₀
-  pub known : formed ≡ wellFormed s
-  pub nexuses : length (s .nexuses) ≡ nexusCount
-  pub places : length (s .sets) ≡ placeCount
 
 module _ {pages events : List ℕ} {s₀ : State} {out₀ : List ℕ} {s : State} {out : List ℕ} {formed : Bool} {rest : List ℕ} {i : ℕ}
-    (l : Replaying pages events s₀ out₀ s out formed rest i) (h : 8 ≤ length rest) where
-  abbrev next : Call
-  next = call pages (entryOf rest)
+    (l : Replaying pages events s₀ out₀ s out formed rest i) where
+  -- an answer stored
+  stored : {end : List ℕ} {a : Answer} → end ≡ sets out (4 * i) (fourOf a) → a ≡ answer s (next (l .plays)) → end ≡ stores i s (next (l .plays)) out
+  stored f e = f ∙ ap (λ (a : Answer). sets out (4 * i) (fourOf a)) e
 
-  -- check 1 was made before
-  agreed : answerWhere formed s next ≡ answer s next
-  agreed = ap (λ (b : Bool). answerWhere b s next) (l .known) ∙ sym (where-agrees s next)
+  keeps : {end : List ℕ} → end ≡ stores i s (next (l .plays)) out → length end ≡ length out₀
+  keeps told = ap length told ∙ length-stores i s (next (l .plays)) out ∙ l .kept
 
-  -- one event more
-  pub replay-more : {t : State} {end : List ℕ} {then : Bool} → t ≡ carriedOut byNumber s (effectBy s next (answerWhere formed s next))
-      → end ≡ sets out (4 * i) (fourOf (answerWhere formed s next)) → then ≡ (formed || isPowerUp next) → Replaying pages events s₀ out₀ t end then (drop 8 rest) (i + 1)
-  replay-more e f g =
-      let here = e ∙ ap (λ (a : Answer). carriedOut byNumber s (effectBy s next a)) agreed in
-      let told = f ∙ ap (λ (a : Answer). sets out (4 * i) (fourOf a)) agreed in
-      record {
-        adds = adds-more (l .adds) h here told;
-        kept = ap length told ∙ length-stores i s next out ∙ l .kept;
-        known = g ∙ ap (λ (b : Bool). b || isPowerUp next) (l .known) ∙ sym (ap wellFormed here ∙ formed-after s next (omega (arith, l .nexuses)) (omega (arith, l .places)));
-        nexuses = ap (λ (x : State). length (x .nexuses)) here ∙ call-size s next .nexuses ∙ l .nexuses;
-        places = ap (λ (x : State). length (x .sets)) here ∙ call-size s next .places ∙ l .places;
-      }
+  module _ (h : 8 ≤ length rest) {t : State} {end : List ℕ} {then : Bool} where
+    -- that of an event which leaves the record as it is
+    pub quiet-stored : {q : Quiet} → q ≡ quietOf formed s (eventAsked (entryOf rest)) → q .quiet ≡ true → t ≡ s → end ≡ sets out (4 * i) (fourOf (q .answer)) → then ≡ formed
+        → Replaying pages events s₀ out₀ t end then (drop 8 rest) (i + 1)
+    quiet-stored found here e f g =
+        let told = stored f (quiet-answered (l .plays) found here) in record { plays = quiet-more (l .plays) h found here e told g; kept = keeps told }
 
-  -- one that leaves the record as it is
-  pub quiet-more : {t : State} {end : List ℕ} {then : Bool} {q : Quiet} → q ≡ quietOf formed s (eventAsked (entryOf rest)) → q .quiet ≡ true → t ≡ s → end ≡ sets out (4 * i) (fourOf (q .answer)) → then ≡ formed
-      → Replaying pages events s₀ out₀ t end then (drop 8 rest) (i + 1)
-  unfolding call
-  quiet-more found here e f g =
-      let q = quiet-still byNumber formed s (eventAsked (entryOf rest)) (eventPage pages (entryOf rest)) (sym (ap (λ (x : Quiet). x .quiet) found) ∙ here) in
-      let told = f ∙ ap (λ (x : Quiet). sets out (4 * i) (fourOf (x .answer))) found ∙ ap (λ (a : Answer). sets out (4 * i) (fourOf a)) (sym (q .answered)) in
-      replay-more (e ∙ sym (q .stays)) told (g ∙ sym (ap (λ (b : Bool). formed || b) (q .running) ∙ or-false formed))
-
-  -- any other
-  pub call-more : {t : State} {end page : List ℕ} {then power : Bool} {e : Entry} {asked : Asked} {o : Outcome} → e ≡ entryOf rest → asked ≡ eventAsked e → page ≡ eventPage pages e
-      → o ≡ outcomeBy s (callOf asked page) (answerWhere formed s (callOf asked page)) → power ≡ isPowerOn asked
-      → t ≡ state (o .device) → end ≡ sets out (4 * i) (fourOf (o .answer)) → then ≡ (formed || power) → Replaying pages events s₀ out₀ t end then (drop 8 rest) (i + 1)
-  unfolding call outcomeBy
-  call-more {page = page} {e = e} {asked = asked} {o = o} a b c d p u f g =
-      let it : callOf asked page ≡ next = ap₂ callOf (b ∙ ap eventAsked a) (c ∙ ap (eventPage pages) a) in
-      let out-of : o ≡ outcomeBy s next (answerWhere formed s next) = d ∙ ap (λ (x : Call). outcomeBy s x (answerWhere formed s x)) it in
-      replay-more (u ∙ ap (λ (x : Outcome). state (x .device)) out-of) (f ∙ ap (λ (x : Outcome). sets out (4 * i) (fourOf (x .answer))) out-of) (g ∙ ap (λ (x : Bool). formed || x) (p ∙ sym (is-power asked page) ∙ ap isPowerUp it))
-
--- what is found of an event
-pub event-found : (formed : Bool) (s : State) (rest : List ℕ) → length (s .nexuses) ≡ nexusCount → {e : Entry} {asked : Asked} {n : ℕ} {sight : Sight} {q : Quiet} → e ≡ entryOf rest → asked ≡ eventAsked e
-    → n ≡ senderNumber asked → sight ≡ sighted s n → q ≡ quietly formed nexusCount (sight .nexus) (sight .set) asked → q ≡ quietOf formed s (eventAsked (entryOf rest))
-event-found formed s rest size {asked = asked} a b c d f = quiet-found formed s asked size c d f ∙ ap (quietOf formed s) (b ∙ ap eventAsked a)
+    -- and of any other
+    pub call-stored : {page : List ℕ} {power : Bool} {e : Entry} {asked : Asked} {o : Outcome} → e ≡ entryOf rest → asked ≡ eventAsked e → page ≡ eventPage pages e
+        → o ≡ outcomeBy s (callOf asked page) (answerWhere formed s (callOf asked page)) → power ≡ isPowerOn asked
+        → t ≡ state (o .device) → end ≡ sets out (4 * i) (fourOf (o .answer)) → then ≡ (formed || power) → Replaying pages events s₀ out₀ t end then (drop 8 rest) (i + 1)
+    unfolding outcomeBy
+    call-stored {page = page} {asked = asked} a b c d p u f g =
+        let it = call-made (l .plays) a b c in
+        let out-of = call-outcome (l .plays) it d in
+        let told = stored f (ap (λ (x : Outcome). x .answer) out-of) in
+        record { plays = call-more (l .plays) h asked page it out-of p u told g; kept = keeps told }

@@ -19,5 +19,5 @@ is-sound-file-spec =
     (λ c κs. search needs)
     (λ c.
     let h = c .before .before .before .before in
-    simp (c .sound-run .ensures, c .before .pages-of .ensures, c .before .before .events-of .ensures)
+    simp (c .sound-run .ensures, c .before .pages-of .ensures, c .before .before .events-of .ensures .0)
     (sound-told (now (h .before .before .args .file)) (sym (h .is-headed .ensures) ∙ not-false _ (c .before .before .before .if1 .left)))))

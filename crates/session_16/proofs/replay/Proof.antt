@@ -27,5 +27,5 @@ replay-spec =
     let t = c .before .before .before .before .before .before .before in
     let file = now (t .before .before .before .before .args .file) in
     let e : soundFile file ≡ true = sym (t .is-sound-file .ensures) ∙ not-false _ (c .before .before .before .before .before .before .if1 .left) in
-    let r = simp (c .before .before .before .before .pages-of .ensures, c .before .before .before .before .before .events-of .ensures, t .before .power-on .ensures) at (c .before .before .run .ensures) in
+    let r = simp (c .before .before .before .before .pages-of .ensures, c .before .before .before .before .before .events-of .ensures .0, t .before .power-on .ensures) at (c .before .before .run .ensures) in
     gives-done start (callsOf file) (now (t .before .before .before .before .args .out)) (simp e) (r .0) (r .1)))

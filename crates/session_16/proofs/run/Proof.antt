@@ -13,7 +13,8 @@ use Rattle.device_16.specs.Model.{state, device}
 use Rattle.recording.specs.Entries.{calls}
 use Rattle.session.proofs.Folds.{adds-starts, adds-ends}
 use Rattle.session.proofs.Stores.{stores-shown}
-use Rattle.session_16.proofs.Replaying.{Replaying, quiet-more, call-more, event-found}
+use Rattle.session_16.proofs.Replaying.{Replaying, quiet-stored, call-stored}
+use Rattle.session_16.proofs.Playing.{event-found}
 use Rattle.session_16.proofs.run.Statement.{statement}
 use Rattle.session_16.proofs.run.Tie as tie
 
@@ -36,14 +37,14 @@ places c = search (needs, sized-field)
 
 -- so many events were replayed, and as many are left
 counted : (c : tie.After-quietly Inv-loop μ-loop) → let l = c .before .before .before .before .before .before .loop in 8 * l .i + length (now (l .rest)) ≡ length (now (c .before .before .before .before .before .before .before .before .before .before .before .args .events))
-counted c = c .before .before .before .before .before .before .loop .inv .adds .counted
+counted c = c .before .before .before .before .before .before .loop .inv .plays .adds .counted
 
 pub run-spec : {M : Type 1} → statement M
 run-spec =
     tie.close
     (tie.spec Inv-loop μ-loop
     (λ c κs. search needs)
-    (λ c. record { adds = adds-starts; kept = refl; known = c .well-formed .ensures; nexuses = nexuses c; places = places c })
+    (λ c. record { plays = record { adds = adds-starts; known = c .well-formed .ensures; nexuses = nexuses c; places = places c }; kept = refl })
     (λ c κs. search needs)
     (λ c κs. search needs)
     (λ c κs. search needs)
@@ -68,14 +69,14 @@ run-spec =
     let here = t .before .before .before .before .before .loop-test .taken in
     let e = t .before .before .before .before .entry-of .ensures in
     let asked = t .before .before .before .asked-of .ensures in
-    let found = event-found (l .formed) (state (l .after)) rest (l .inv .nexuses) e asked (t .before .before .sender-number .ensures) (t .before .look .ensures) (t .quietly .ensures) in
+    let found = event-found (l .formed) (state (l .after)) rest (l .inv .plays .nexuses) e asked (t .before .before .sender-number .ensures) (t .before .look .ensures) (t .quietly .ensures) in
     rw (part-rest rest 8)
     (⊎-elim
-    (λ w. quiet-more (l .inv) here found (w .0 .taken) (ap state (w .6)) (w .5 ∙ w .2 .ensures) (w .7))
-    (λ w. call-more (l .inv) here e asked (w .1 .ensures) (w .2 .ensures) (w .8 .ensures) (ap state (w .10)) (w .9 ∙ w .4 .ensures) (w .11))
+    (λ w. quiet-stored (l .inv) here found (w .0 .taken) (ap state (w .6)) (w .5 ∙ w .2 .ensures) (w .7))
+    (λ w. call-stored (l .inv) here e asked (w .1 .ensures) (w .2 .ensures) (w .8 .ensures) (ap state (w .10)) (w .9 ∙ w .4 .ensures) (w .11))
     (c .before .if1 .came)))
     (λ c. c .before .loop .inv .kept)
     (λ c.
     let a = c .before .before .before .before .before .before .args in
-    let e = adds-ends (c .before .loop .inv .adds) (c .loop-test .left) in
+    let e = adds-ends (c .before .loop .inv .plays .adds) (c .loop-test .left) in
     (ap device (e .1), e .0 ∙ stores-shown (state (a .d)) (calls (now (a .events)) (now (a .pages))) (now (a .out)))))
