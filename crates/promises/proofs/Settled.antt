@@ -18,6 +18,9 @@ pub use Rattle.wire_code.proofs.Settled.{is-length-wrong-settles as wire-code-i
 pub use Rattle.wire_code.proofs.Settled.{number-at-settles as wire-code-number-at-settles}
 pub use Rattle.wire_code.proofs.Settled.{is-same-settles as wire-code-is-same-settles}
 pub use Rattle.wire_code.proofs.Settled.{part-settles as wire-code-part-settles}
+-- crate text_code
+pub use Rattle.text_code.proofs.Settled.{put-decimal-settles as text-code-put-decimal-settles}
+pub use Rattle.text_code.proofs.Settled.{read-decimal-settles as text-code-read-decimal-settles}
 -- crate answer_code
 pub use Rattle.answer_code.proofs.Settled.{row-of-settles as answer-code-row-of-settles}
 pub use Rattle.answer_code.proofs.Settled.{sense-of-settles as answer-code-sense-of-settles}
@@ -113,3 +116,8 @@ pub use Rattle.command_code.proofs.Settled.{has-data-settles as command-code-ha
 pub use Rattle.command_code.proofs.Settled.{order-of-settles as command-code-order-of-settles}
 pub use Rattle.command_code.proofs.Settled.{reply-head-settles as command-code-reply-head-settles}
 pub use Rattle.command_code.proofs.Settled.{values-head-settles as command-code-values-head-settles}
+-- crate claim_code
+pub use Rattle.claim_code.proofs.Settled.{became-settles as claim-code-became-settles}
+pub use Rattle.claim_code.proofs.Settled.{row-of-nexus-settles as claim-code-row-of-nexus-settles}
+pub use Rattle.claim_code.proofs.Settled.{row-line-settles as claim-code-row-line-settles}
+pub use Rattle.claim_code.proofs.Settled.{total-line-settles as claim-code-total-line-settles}

@@ -8,6 +8,9 @@ pub use Rattle.drive.proofs.Refusals.{every-call-answers}
 pub use Rattle.drive.proofs.Refusals.{refusals-change, refusals-keep}
 -- On a well-formed record the part of a call after check 1 answers as the call does.
 pub use Rattle.drive.proofs.Effects.{known-agrees}
+-- A number in decimal is digits, at least one, that give the number when they are read, and no zero stands before others.
+pub use Rattle.text.proofs.Decimal.{decimal-spells}
+pub use Rattle.text.proofs.Worked.{numbers-computed}
 -- Key-associated data written and read back are the same; a list that is accepted, read and written again, has the same bytes.
 pub use Rattle.kad.proofs.RoundTrip.{read-of-written as kad-read-of-written, written-of-read as kad-written-of-read}
 -- The faulty byte of a refused page is the lowest at which a rule breaks; of a page that is taken, or refused by answer 9,
@@ -31,6 +34,9 @@ pub use Rattle.record.proofs.RoundTrip.{read-of-written as record-read-of-writt
 pub use Rattle.record.proofs.Formed.{good-is-formed}
 -- P1 to P10 hold of the definitions, pages as bytes, and further rows for the errors that look right.
 pub use Rattle.drive.proofs.Table.{table, proved, further, further-proved}
+-- Whoever sends: each of answers 1 to 4 is due where document 01 says; of a security command 5 and 6, of IN then 0, of a write 11, 12
+-- and 0. And a block goes down encrypted, external or clear exactly if nothing stops its write and its set has the mode of that name.
+pub use Rattle.drive.proofs.Due.{sent-due, in-due, out-due, write-due, write-becomes}
 -- The lock doesn't stop reads: two records that differ only in locks and saved numbers answer a read alike, and 11 is never its answer.
 pub use Rattle.drive.proofs.Restoring.{lock-free, read-numbers, never-11}
 -- A read acts on no set, draws no number, registers nobody and changes nothing but a pending flag of its sender.
@@ -114,3 +120,28 @@ pub use Rattle.history.proofs.Demand.{numbers-apart}
 pub use Rattle.history.proofs.Worked.{p7-stopped, p8-stopped, p9-passes}
 -- A supplemental key is no action; releasing an empty place is none; an empty place 0 is acted on only by being replaced.
 pub use Rattle.history.proofs.NoAction.{supplemental-no-action, empty-release-no-action, default-only-replaced}
+-- Calls since power-on draw at most two numbers each beyond the places: no recording comes near the wrap.
+pub use Rattle.history.proofs.Draws.{draws-few}
+-- Document 02, request 11: 22 for a file that isn't sound, whatever the rate, then 23; nothing is printed of what is refused.
+pub use Rattle.claim.proofs.Claiming.{wrong-first, rate-above, claim-taken, nothing-printed, all-printed}
+-- Every write event is counted once: the sum of all rows is the number of write events, taken from the file's bytes.
+pub use Rattle.claim.proofs.Once.{sum-is-events}
+-- It is counted in its own nexus's row; the last row, of nexuses above the drive's, has refused writes alone.
+pub use Rattle.claim.proofs.Once.{own-row, last-row, last-row-of}
+-- The totals are the column sums, and count every write once, whatever row it stands in.
+pub use Rattle.claim.proofs.Sums.{totals-are, rows-sum}
+-- A write is counted as encrypted exactly if the drive, at that point of the session, answered it 0 with decision encrypted: by any calls
+-- since power-on, and of every sound file.
+pub use Rattle.claim.proofs.Exactly.{counted-at, encrypted-exactly, claimed-exactly}
+-- EXTERNAL and clear are never claimed, nor is a write that is answered with another number than 0.
+pub use Rattle.claim.proofs.Exactly.{never-claimed, refused-never-claimed}
+-- The text, read line by line and word by word, gives the rows' numbers and counts, the totals and the amount.
+pub use Rattle.claim.proofs.Reading.{text-reads}
+-- No sum and no amount overflows, and the text has at most 23 bytes a row and 44 for the totals.
+pub use Rattle.claim.proofs.Claiming.{claim-fits, amount-most}
+pub use Rattle.claim.proofs.Long.{text-few}
+-- A recording cut anywhere claims no more, in any row and column; a session whose second part starts with power-on claims what its parts
+-- claim.
+pub use Rattle.claim.proofs.Parts.{cut-row, cut-totals, cut-amount, cut-claims, parts-add-up}
+-- Claims computed: the verdict, and the text to the character.
+pub use Rattle.claim.proofs.Worked.{table as claim-table, worked as claims-proved}

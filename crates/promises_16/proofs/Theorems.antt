@@ -1,15 +1,19 @@
 -- This model's instance of what is proved once over the sizes.
 -- Assumes nothing.
-use Prim.Native.Nat.{ℕ, _<_, _^_}
+use Prim.Native.Nat.{ℕ, _≤_, _<_, _^_}
 use mathlib.Core.Bool.{Bool, true}
-use mathlib.Core.List.{List, [], _∷_}
+use mathlib.Core.List.{List, [], _∷_, _++_}
 use mathlib.Core.Path.{_≡_, refl, sym, ap, subst, _∙_}
-use lib.Dec.{lit<}
+use lib.Dec.{lit<, lit≤}
+use lib.ListN.{length}
+use Rattle.wire.proofs.Bytes.{Below}
 use Rattle.page.specs.Check.{checked}
 use Rattle.device.specs.Record.{State, nexusAt, powerOn}
 use Rattle.device.specs.Selecting.{selected, selectedSet}
 use Rattle.device.specs.WellFormed.{wellFormed}
-use Rattle.drive.specs.Calls.{Call}
+use Rattle.drive.specs.Calls.{Call, write}
+use Rattle.drive.specs.Due.{Exactly}
+use Rattle.drive.specs.declared.Decision.the-variants.{Encrypted}
 use Rattle.drive.specs.Checks.{pageChecked}
 use Rattle.drive.specs.Runs.{runFrom, run}
 use Rattle.kept.proofs.Runs.{since-power-on}
@@ -19,10 +23,15 @@ use Rattle.sizes_16.specs.Sizes.{nexusCount, placeCount}
 use Rattle.device_16.specs.Model.{state, device}
 use Rattle.device_16.specs.declared.Device.{Device}
 use Rattle.drive_16.specs.Outcomes.{outcomeBy, outcome, poweredOn}
-use Rattle.recording.specs.Files.{soundFile, fileVerdict, callsOf}
+use Rattle.recording.specs.Files.{soundFile, fileVerdict, eventBytes, callsOf}
 use Rattle.session.proofs.Replayed.{file-taken}
 use Rattle.session_16.specs.Sessions.{start, Gives}
 use Rattle.session_16.specs.declared.Ran.{Ran}
+use Rattle.claim.specs.Rows.{rowOfNexus, countsAs}
+use Rattle.claim.specs.Files.{rateMost, claimText}
+use Rattle.claim.specs.Claimable.{Claimable}
+use Rattle.claim.proofs.Exactly.{written, claimed-exactly}
+use Rattle.claim.proofs.Long.{text-few}
 use Rattle.promises_16.specs.Runs.{leaves, sincePowerOn}
 -- What this model writes as a record's bytes is loaded as the same record; bytes that are loaded, written again, are the same bytes; a
 -- load takes bytes exactly if their count is right and each yes/no byte is 0 or 1; a refused one carries nothing.
@@ -63,3 +72,13 @@ pub replay-as-calls : (file buffer : List ℕ) (r : Ran) (after : List ℕ) → 
     → state (r .device) ≡ state (sincePowerOn (callsOf file))
 replay-as-calls file buffer r after g sound =
     ap (λ (x : Ran). state (x .device)) (g .ran) ∙ file-taken start file buffer sound .left ∙ sym (runs-so (callsOf file))
+
+-- of every sound file: a write event counts in row k as encrypted exactly if that is its nexus's row and it may be claimed at that point of
+-- the session
+pub claimed-here : (file : List ℕ) → Below file → soundFile file ≡ true → (before later : List Call) (n : ℕ) (supported : Bool) → callsOf file ≡ before ++ write n supported ∷ later
+    → (k : ℕ) → Exactly (countsAs nexusCount k Encrypted (written start before n supported) ≡ true) ((rowOfNexus nexusCount n ≡ k) × Claimable nexusCount placeCount before n supported)
+claimed-here = claimed-exactly nexusCount placeCount (lit< tt) (lit< tt) (lit≤ tt)
+
+-- the text of every claim that is made has room in TEXT_MOST bytes
+pub text-here : (rate : ℕ) (file : List ℕ) → length (eventBytes file) < 65536 → rate ≤ rateMost → length (claimText nexusCount placeCount rate file) ≤ 435
+text-here rate file h r = text-few nexusCount placeCount rate file (lit< tt) h r

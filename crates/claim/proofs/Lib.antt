@@ -1,0 +1,12 @@
+pub mod Counting
+pub mod Sums
+pub mod Sessions
+pub mod Noting
+pub mod Lines
+pub mod Claiming
+pub mod Once
+pub mod Exactly
+pub mod Parts
+pub mod Long
+pub mod Reading
+pub mod Worked

@@ -1,0 +1,5 @@
+pub mod Decimal
+pub mod Pieces
+pub mod Spelling
+pub mod Puts
+pub mod Worked

@@ -1,0 +1,5 @@
+pub mod Characters
+pub mod Decimal
+pub mod Spelled
+pub mod Pieces
+pub mod Puts
