@@ -44,9 +44,13 @@ pub fn long(number: u8, sense: Sense) -> String {
     if sense == NO_SENSE {
         return words;
     }
+    format!("{words}\n    {}", sense_words(sense))
+}
+
+/// A sense with SPC-4's names.
+pub fn sense_words(sense: Sense) -> String {
     let [key, asc, ascq] = sense;
-    let (key, code) = (sense_key_name(key), sense_name(asc, ascq));
-    format!("{words}\n    sense {}: {key}, {code}", sense_codes(sense))
+    format!("sense {}: {}, {}", sense_codes(sense), sense_key_name(key), sense_name(asc, ascq))
 }
 
 /// Sense key, ASC and ASCQ as 01 writes them: 7/2A/13.

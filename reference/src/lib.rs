@@ -1,5 +1,6 @@
-//! A second, independent account of document 01, and of requests 1 to 3 of document 02: the encryption controller of
-//! a tape drive, the replay of recorded sessions, and the programs that compare them with others on a pipe.
+//! A second, independent account of document 01, and of requests 1 to 3 and 11 of document 02: the encryption
+//! controller of a tape drive, the replay of recorded sessions and their claim, and the programs that compare them with
+//! others on a pipe. Host tools beside it: recordings as text, and the page of a claim.
 
 #![forbid(unsafe_code)]
 
@@ -7,6 +8,7 @@ pub mod account;
 pub mod answer;
 pub mod answer_words;
 pub mod calls;
+pub mod claim;
 pub mod codes;
 pub mod comparison;
 pub mod controller;
@@ -18,6 +20,7 @@ mod places;
 pub mod record;
 pub mod record_bytes;
 pub mod recording;
+pub mod report;
 pub mod response_pages;
 pub mod script;
 pub mod set_page;

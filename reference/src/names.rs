@@ -25,6 +25,11 @@ pub const DECRYPTION_MODES: [&str; 4] = ["DISABLE", "RAW", "DECRYPT", "MIXED"];
 /// 02, request 1: "block kind 0 plain, 1 encrypted under algorithm 1, 2 encrypted otherwise".
 pub const BLOCK_KINDS: [&str; 3] = ["plain", "encrypted", "otherwise"];
 
+/// What became of a block that was written, by the reply's code: "0 clear, 1 external, 2 encrypted".
+pub const WRITTEN: [&str; 3] = ["clear", "external", "encrypted"];
+/// What becomes of a block that is read: "0 plain, 1 raw, 2 decrypted".
+pub const READ: [&str; 3] = ["plain", "raw", "decrypted"];
+
 /// A code's name.
 pub fn name_of(names: &[&'static str], code: u8) -> Option<&'static str> {
     names.get(usize::from(code)).copied()

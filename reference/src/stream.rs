@@ -98,6 +98,9 @@ fn read_whole(input: &mut impl Read, bytes: &mut [u8]) -> io::Result<bool> {
     }
 }
 
+/// A write's decisions by their codes: "0 clear, 1 external, 2 encrypted".
+const WRITTEN_AS: [WrittenAs; 3] = [WrittenAs::Clear, WrittenAs::External, WrittenAs::Encrypted];
+
 /// "Reply: answer number, sense key, ASC, ASCQ, length M (2), M bytes."
 #[derive(Clone, PartialEq, Eq, Debug)]
 pub struct Reply {
@@ -121,6 +124,13 @@ impl Reply {
     /// 01: "A refused answer carries its number and sense only."
     fn refused(refused: Refused) -> Reply {
         Reply { number: refused.number(), sense: refused.sense(), data: Vec::new() }
+    }
+
+    /// What became of a write that is done, as `written` gives it; nothing where the reply says something else.
+    pub fn written(&self) -> Option<Written> {
+        let (0, &[code, place, index]) = (self.number, &self.data[..]) else { return None };
+        let as_what = *WRITTEN_AS.get(usize::from(code))?;
+        Some(Written { as_what, place: usize::from(place), index })
     }
 
     /// The reply's bytes.
@@ -244,12 +254,8 @@ fn plain(outcome: Result<(), Refused>) -> Reply {
 
 /// "Write done: 0 clear, 1 external, 2 encrypted; place; index."
 fn written(written: Written) -> Reply {
-    let as_what = match written.as_what {
-        WrittenAs::Clear => 0,
-        WrittenAs::External => 1,
-        WrittenAs::Encrypted => 2,
-    };
-    Reply::done(vec![as_what, written.place as u8, written.index])
+    let as_what = WRITTEN_AS.iter().position(|&as_what| as_what == written.as_what);
+    Reply::done(vec![as_what.expect("each decision has a code") as u8, written.place as u8, written.index])
 }
 
 /// "Reply when done (answer 0): M = 2: 0 plain, 1 raw, 2 decrypted; then the place."

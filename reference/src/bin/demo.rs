@@ -15,9 +15,9 @@ mod month;
 mod pipe;
 #[path = "support/restoring_host.rs"]
 mod restoring_host;
+#[path = "support/standard.rs"]
+mod standard;
 
-use comments::WRITTEN;
-use files::Ended;
 use month::Month;
 use pipe::Pipe;
 use reference::answer::{Refused, Sense, NO_SENSE};
@@ -28,11 +28,12 @@ use reference::comparison::session::{
     event, give_record, power_on, read_status, security_in, security_out, write,
 };
 use reference::hex;
-use reference::names::{name_of, DECRYPTION_MODES, ENCRYPTION_MODES, SCOPES};
+use reference::names::{name_of, DECRYPTION_MODES, ENCRYPTION_MODES, SCOPES, WRITTEN};
 use reference::record::Record;
 use reference::record_bytes;
 use reference::sizes::U_KAD_BYTES;
 use reference::stream::{kind, Command, Reply};
+use standard::{code, Ended};
 use std::process::ExitCode;
 
 const USAGE: &str = "usage: demo ROOT PROGRAM [ARGUMENT ...]";
@@ -47,7 +48,7 @@ fn main() -> ExitCode {
     let arguments: Vec<String> = std::env::args().skip(1).collect();
     let (month, pipe) = match ready(&arguments) {
         Ok(ready) => ready,
-        Err(ended) => return ended.code(),
+        Err(ended) => return code(Err(ended)),
     };
     let mut play = Play { pipe, document: "01", step: "", differing: Vec::new() };
     println!(
@@ -361,7 +362,7 @@ fn decryption_name(mode: u8) -> &'static str {
 }
 
 fn decision_name(decision: u8) -> &'static str {
-    WRITTEN.get(usize::from(decision)).copied().unwrap_or("unknown")
+    name_of(&WRITTEN, decision).unwrap_or("unknown")
 }
 
 /// A Set Data Encryption page of at least 20 bytes, in words.

@@ -6,14 +6,16 @@
 
 #[path = "support/files.rs"]
 mod files;
+#[path = "support/new_file.rs"]
+mod new_file;
+#[path = "support/standard.rs"]
+mod standard;
 
-use files::{print, read, read_recording, shown, Ended};
+use files::{read, read_recording, shown};
+use new_file::NewFile;
 use reference::script::{make, show};
+use standard::{code, print, Ended};
 use std::ffi::{OsStr, OsString};
-use std::fs::{self, File, Metadata};
-use std::io::{self, Write};
-use std::os::unix::fs::MetadataExt;
-use std::path::Path;
 use std::process::ExitCode;
 
 const USAGE: &str = "usage: record SCRIPT FILE   make the recording FILE from the text SCRIPT
@@ -28,12 +30,11 @@ enum Task {
 }
 
 fn main() -> ExitCode {
-    let done = task(std::env::args_os().skip(1)).and_then(|task| match task {
-        Task::Help => print(&format!("{USAGE}\n")),
+    code(task(std::env::args_os().skip(1)).and_then(|task| match task {
+        Task::Help => print(format!("{USAGE}\n")),
         Task::Make { script, file } => make_file(&script, &file),
-        Task::Show { file } => read_recording(&file).and_then(|recording| print(&show(&recording))),
-    });
-    done.map_or_else(|ended| ended.code(), |()| ExitCode::SUCCESS)
+        Task::Show { file } => read_recording(&file).and_then(|recording| print(show(&recording))),
+    }))
 }
 
 /// Reads the arguments; after `--` none is an option.
@@ -62,43 +63,9 @@ fn task(arguments: impl Iterator<Item = OsString>) -> Result<Task, Ended> {
 
 /// Makes the recording; where the script is wrong, no file is written or changed.
 fn make_file(script: &OsStr, file: &OsStr) -> Result<(), Ended> {
-    let (script_name, file_name) = (shown(script), shown(file));
-    let there = fs::metadata(file).ok();
-    if there.as_ref().is_some_and(|there| !there.is_file()) {
-        return Err(Ended::unusable(format!("{file_name} is there and is no file")));
-    }
-    if there.as_ref().is_some_and(|there| is_script(script, there)) {
-        return Err(Ended::unusable(format!("{script_name} and {file_name} are the same file")));
-    }
+    let new = NewFile::at(file, script)?;
     let text = read(script)?;
     let recording = make(&String::from_utf8_lossy(&text))
-        .map_err(|fault| Ended::refused(format!("{script_name}:{}: {}", fault.line, fault.what)))?;
-    replace(Path::new(file), there, &recording.bytes())
-        .map_err(|fault| Ended::unusable(format!("{file_name} can't be written: {fault}")))
-}
-
-/// Whether the script is this file, under whatever name.
-fn is_script(script: &OsStr, there: &Metadata) -> bool {
-    let script = if script == "-" { OsStr::new("/dev/stdin") } else { script };
-    fs::metadata(script).is_ok_and(|script| (script.dev(), script.ino()) == (there.dev(), there.ino()))
-}
-
-/// Writes a file whole, under another name in its folder first; one that is there keeps its permissions.
-fn replace(file: &Path, there: Option<Metadata>, bytes: &[u8]) -> io::Result<()> {
-    let file = fs::canonicalize(file).unwrap_or_else(|_| file.to_path_buf());
-    let new = file.with_file_name(format!(".record.{}.new", std::process::id()));
-    let written =
-        write_new(&mut File::create_new(&new)?, there, bytes).and_then(|()| fs::rename(&new, &file));
-    written.inspect_err(|_| {
-        let _ = fs::remove_file(&new);
-    })
-}
-
-/// Fills the file that is to have the name in the end.
-fn write_new(new: &mut File, there: Option<Metadata>, bytes: &[u8]) -> io::Result<()> {
-    new.write_all(bytes)?;
-    if let Some(there) = there {
-        new.set_permissions(there.permissions())?;
-    }
-    new.sync_all()
+        .map_err(|fault| Ended::refused(format!("{}:{}: {}", shown(script), fault.line, fault.what)))?;
+    new.write(&recording.bytes())
 }

@@ -5,23 +5,24 @@
 
 #![forbid(unsafe_code)]
 
+#[path = "support/standard.rs"]
+mod standard;
+
 use reference::record_bytes;
 use reference::recording::{replay, Verdict};
-use std::io::{self, Read, Write};
+use standard::{code, print, read_input, Ended};
+use std::process::ExitCode;
 
-fn main() -> io::Result<()> {
-    let mut file = Vec::new();
-    io::stdin().lock().read_to_end(&mut file)?;
-    let replayed = replay(&file);
-    let bytes = match replayed.verdict {
-        Verdict::Taken if std::env::args().any(|argument| argument == "--record") => {
-            record_bytes::give(&replayed.record)
-        }
-        Verdict::Taken => replayed.answers,
-        verdict => {
-            eprintln!("{} the recording is refused", verdict.number());
-            return Ok(());
-        }
-    };
-    io::stdout().lock().write_all(&bytes)
+fn main() -> ExitCode {
+    code(tell(std::env::args().any(|argument| argument == "--record")))
+}
+
+/// Writes the answers, or the record.
+fn tell(wants_record: bool) -> Result<(), Ended> {
+    let replayed = replay(&read_input("the recording")?);
+    match replayed.verdict {
+        Verdict::Taken if wants_record => print(record_bytes::give(&replayed.record)),
+        Verdict::Taken => print(replayed.answers),
+        verdict => Err(Ended::refused(format!("{} the recording is refused", verdict.number()))),
+    }
 }

@@ -1,6 +1,7 @@
 //! The comparison of the library with another drive on a pipe: replies and, after every call, the record.
 
 mod ceem_cases;
+pub mod claims;
 mod difference;
 mod directed;
 pub mod numbers;

@@ -12,7 +12,8 @@ impl Numbers {
         Numbers { state: seed }
     }
 
-    /// The next number.
+    /// The next number. There always is one, so that this is no iterator.
+    #[allow(clippy::should_implement_trait)]
     pub fn next(&mut self) -> u64 {
         self.state = self.state.wrapping_add(0x9E37_79B9_7F4A_7C15);
         let mut mixed = self.state;

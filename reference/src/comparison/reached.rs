@@ -4,6 +4,7 @@ use super::ceem_cases::CeemCase;
 use super::report::kind_name;
 use crate::account::{Account, ReadCell, Rule};
 use crate::codes::{decryption, encryption};
+use crate::names::READ;
 use crate::record::Record;
 use crate::set_page::PageRule;
 use crate::sizes::{PLACES, SUPPLEMENTAL_KEYS};
@@ -94,7 +95,7 @@ impl fmt::Display for Item {
                 write!(formatter, "{} {}", kind_name(*kind), if *releases { "with" } else { "without" })
             }
             Item::ReadDone { as_what, place } => {
-                let as_what = ["plain", "raw", "decrypted"][usize::from(*as_what)];
+                let as_what = READ[usize::from(*as_what)];
                 write!(formatter, "{as_what} from place {place}")
             }
             Item::ClauseBroken(clause) | Item::ClauseBrokenAlone(clause) => write!(formatter, "{clause:?}"),

@@ -76,6 +76,21 @@ pub fn answer_bytes(reply: &Reply) -> [u8; ANSWER_BYTES] {
 }
 
 impl Recording {
+    /// Asks a drive for each event in turn: its replies, up to the event that has none, and why it hasn't.
+    pub fn replies(
+        &self,
+        mut ask: impl FnMut(&Command) -> Result<Reply, String>,
+    ) -> (Vec<Reply>, Result<(), String>) {
+        let mut replies = Vec::new();
+        for (position, event) in self.events.iter().enumerate() {
+            match ask(&self.command(event)) {
+                Ok(reply) => replies.push(reply),
+                Err(fault) => return (replies, Err(format!("event {position}: {fault}"))),
+            }
+        }
+        (replies, Ok(()))
+    }
+
     /// The call that an event stands for. "IN and OUT events use protocol 20h; IN gives no page here": its lent buffer
     /// is of no bytes.
     pub fn command(&self, event: &Event) -> Command {

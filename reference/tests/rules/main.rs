@@ -1,9 +1,10 @@
-//! Tests of the reference against document 01, and requests 1 to 3 of document 02.
+//! Tests of the reference against document 01, and requests 1 to 3 and 11 of document 02.
 
 #![forbid(unsafe_code)]
 
 mod answers;
 mod ceem;
+mod claim;
 mod events;
 mod examples;
 mod faulty_byte;

@@ -1,7 +1,7 @@
 //! The program `demo` on the reference drive: the month as its text tells it, and files that are wrong.
 
 use crate::comments::holds;
-use crate::programs::{folder, outcome, run};
+use crate::running::{folder, outcome, run};
 use reference::recording::Event;
 use reference::stream::{kind, Reply};
 use std::fs;

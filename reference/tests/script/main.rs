@@ -13,17 +13,16 @@ mod layout;
 mod programs;
 mod random_recordings;
 mod random_texts;
+#[path = "../support/recorded.rs"]
+mod recorded;
 mod refusals;
+#[path = "../support/running.rs"]
+mod running;
 mod set_page;
 mod unsound;
 
-use reference::recording::Recording;
+use recorded::recorded;
 use reference::script::{make, show};
-
-/// The recording of a text that is right.
-fn recorded(text: &str) -> Recording {
-    make(text).unwrap_or_else(|fault| panic!("line {}: {}\n{text}", fault.line, fault.what))
-}
 
 /// The shown text of the recording that a text makes.
 fn shown(text: &str) -> String {

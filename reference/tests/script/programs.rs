@@ -1,53 +1,14 @@
 //! The programs `record` and `words`, with their statuses.
 
+use crate::running::{folder, names, outcome, put_fifo, run, written_through_a_link};
 use std::fs;
-use std::io::Write;
-use std::path::{Path, PathBuf};
-use std::process::{Command, Output, Stdio};
+use std::path::Path;
 
 const RECORD: &str = env!("CARGO_BIN_EXE_record");
 const WORDS: &str = env!("CARGO_BIN_EXE_words");
 
-/// A folder of its own for a test.
-pub fn folder(name: &str) -> PathBuf {
-    let folder = Path::new(env!("CARGO_TARGET_TMPDIR")).join(name);
-    let _ = fs::remove_dir_all(&folder);
-    fs::create_dir_all(&folder).expect("a folder can be made");
-    folder
-}
-
-/// Runs a program in a folder.
-pub fn run(program: &str, folder: &Path, arguments: &[&str], input: &[u8]) -> Output {
-    let mut child = Command::new(program)
-        .args(arguments)
-        .current_dir(folder)
-        .stdin(Stdio::piped())
-        .stdout(Stdio::piped())
-        .stderr(Stdio::piped())
-        .spawn()
-        .expect("the program starts");
-    // A program that doesn't read its input may have ended.
-    let _ = child.stdin.take().expect("its input is a pipe").write_all(input);
-    child.wait_with_output().expect("the program ends")
-}
-
-/// The status, standard output and standard error.
-pub fn outcome(output: &Output) -> (i32, String, String) {
-    let text = |bytes: &[u8]| String::from_utf8_lossy(bytes).into_owned();
-    (output.status.code().unwrap_or(-1), text(&output.stdout), text(&output.stderr))
-}
-
 fn record(folder: &Path, arguments: &[&str], input: &[u8]) -> (i32, String, String) {
     outcome(&run(RECORD, folder, arguments, input))
-}
-
-/// The names in a folder.
-fn names(folder: &Path) -> Vec<String> {
-    let entries = fs::read_dir(folder).expect("the folder can be read");
-    let mut names: Vec<String> =
-        entries.map(|entry| entry.expect("an entry").file_name().to_string_lossy().into_owned()).collect();
-    names.sort();
-    names
 }
 
 #[test]
@@ -98,6 +59,7 @@ fn bad_arguments_and_files_end_with_status_2() {
     fs::write(folder.join("s"), "demount\n").expect("a text can be written");
     fs::hard_link(folder.join("s"), folder.join("same")).expect("a link can be made");
     fs::create_dir(folder.join("d")).expect("a folder can be made");
+    put_fifo(&folder, "fifo");
     let wrong: [&[&str]; 17] = [
         &[],
         &["s"],
@@ -111,7 +73,7 @@ fn bad_arguments_and_files_end_with_status_2() {
         &["d", "f"],
         &["s", "d"],
         &["s", "none/f"],
-        &["s", "/dev/null"],
+        &["s", "fifo"],
         &["s", "s"],
         &["s", "./s"],
         &["s", "same"],
@@ -124,7 +86,7 @@ fn bad_arguments_and_files_end_with_status_2() {
     for arguments in [&["-x", "s"] as &[&str], &[]] {
         assert!(record(&folder, arguments, b"").2.contains("usage: record SCRIPT FILE"));
     }
-    assert_eq!(names(&folder), ["d", "s", "same"]);
+    assert_eq!(names(&folder), ["d", "fifo", "s", "same"]);
     assert_eq!(fs::read(folder.join("s")).expect("the text is there"), b"demount\n");
     for option in ["-h", "--help"] {
         let (status, output, error) = record(&folder, &[option], b"");
@@ -134,16 +96,10 @@ fn bad_arguments_and_files_end_with_status_2() {
 
 #[test]
 fn a_file_behind_a_link_is_replaced_and_keeps_its_permissions() {
-    use std::os::unix::fs::{symlink, PermissionsExt};
-    let folder = folder("link");
-    fs::write(folder.join("f"), "before").expect("a file can be written");
-    fs::set_permissions(folder.join("f"), PermissionsExt::from_mode(0o640)).expect("they can be set");
-    symlink("f", folder.join("l")).expect("a link can be made");
-    assert_eq!(record(&folder, &["-", "l"], b"demount").0, 0);
-    assert!(folder.join("l").is_symlink());
-    let there = fs::metadata(folder.join("f")).expect("the file is there");
-    assert_eq!((there.len(), there.permissions().mode() & 0o777), (16, 0o640));
-    assert_eq!(names(&folder), ["f", "l"]);
+    let length = written_through_a_link("link", |folder, link| {
+        assert_eq!(record(folder, &["-", link], b"demount").0, 0);
+    });
+    assert_eq!(length, 16);
 }
 
 #[test]

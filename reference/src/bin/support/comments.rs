@@ -1,12 +1,9 @@
 //! The comments of a recording's text: what is to come of each call stands after "->".
 
+use reference::names::{READ, WRITTEN};
 use reference::recording::Event;
 use reference::stream::{kind, Reply};
 
-/// What becomes of a written block, by the first byte of the reply's data.
-pub const WRITTEN: [&str; 3] = ["clear", "external", "encrypted"];
-/// What becomes of a block that is read.
-const READ: [&str; 3] = ["plain", "raw", "decrypted"];
 /// A write or read that is answered 0 without telling one of these.
 const UNKNOWN: &str = "unknown";
 

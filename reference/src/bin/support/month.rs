@@ -1,8 +1,10 @@
 //! The month: the recording of a small archive's month, event by event, held against the comments of its text.
 
-use crate::comments::{comments, holds, said, WRITTEN};
-use crate::files::{print, read, read_recording, shown, Ended};
+use crate::comments::{comments, holds, said};
+use crate::files::{read, read_recording, shown};
+use crate::standard::{print, Ended};
 use crate::{is_plain, sense_of, Play, Played};
+use reference::claim::{count, row_of, total, Column};
 use reference::comparison::session::power_on;
 use reference::recording::{answer_bytes, Event, Recording};
 use reference::script::{make, told};
@@ -46,17 +48,7 @@ impl Play {
         ))?;
         let reply = self.pipe.ask(&power_on())?;
         self.check(is_plain(&reply, 0), "answer 0 for power-on");
-        let mut replies = Vec::new();
-        let mut trouble = None;
-        for event in &recording.events {
-            match self.pipe.ask(&recording.command(event)) {
-                Ok(reply) => replies.push(reply),
-                Err(fault) => {
-                    trouble = Some(format!("event {}: {fault}", replies.len()));
-                    break;
-                }
-            }
-        }
+        let (replies, all_came) = recording.replies(|command| self.pipe.ask(command));
         let answers: Vec<u8> = replies.iter().flat_map(answer_bytes).collect();
         let told = told(recording, &answers);
         let events = recording.events.iter().zip(&replies).zip(comments);
@@ -69,10 +61,7 @@ impl Play {
                 self.differs(&difference);
             }
         }
-        match trouble {
-            Some(trouble) => Err(trouble),
-            None => say(&format!("  {}\n", counts(&recording.events, &replies))),
-        }
+        all_came.and_then(|()| say(&format!("  {}\n", counts(&recording.events, &replies))))
     }
 }
 
@@ -103,13 +92,12 @@ fn difference(comment: &str, reply: &Reply, event: &Event) -> Option<String> {
 fn counts(events: &[Event], replies: &[Reply]) -> String {
     let refused = replies.iter().filter(|reply| reply.number != 0).count();
     let writes = events.iter().zip(replies).filter(|(event, _)| event.kind == kind::WRITE);
-    let words: Vec<String> = writes.clone().map(|(event, reply)| said(reply, event).0).collect();
-    let [clear, external, encrypted] = WRITTEN.map(|name| words.iter().filter(|word| *word == name).count());
-    let stopped = writes.filter(|(_, reply)| reply.number != 0).count();
+    let cells = writes.map(|(event, reply)| (row_of(event.nexus), Column::of(reply.written())));
+    let totals = total(&count(cells));
     format!(
-        "{} events: {} answered 0, {refused} refused; \
-         writes: {encrypted} encrypted, {external} external, {clear} clear, {stopped} refused",
+        "{} events: {} answered 0, {refused} refused; writes: {}",
         events.len(),
         replies.len() - refused,
+        Column::EVERY.map(|column| format!("{} {}", totals[column], column.name())).join(", "),
     )
 }

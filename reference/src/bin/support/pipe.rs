@@ -1,7 +1,9 @@
 //! A drive program on a pipe, asked one command at a time.
 
 use reference::stream::{Command, Reply, REPLY_BYTES};
+use std::ffi::OsStr;
 use std::io::{self, Read, Write};
+use std::path::Path;
 use std::process::{Child, ChildStdin, Command as Program, Stdio};
 use std::sync::mpsc::{channel, Receiver};
 use std::thread;
@@ -19,13 +21,13 @@ pub struct Pipe {
 
 impl Pipe {
     /// Starts the program with its arguments.
-    pub fn start(program: &[String]) -> Result<Pipe, String> {
+    pub fn start(program: &[impl AsRef<OsStr>]) -> Result<Pipe, String> {
         let mut child = Program::new(&program[0])
             .args(&program[1..])
             .stdin(Stdio::piped())
             .stdout(Stdio::piped())
             .spawn()
-            .map_err(|error| format!("{} can't be started: {error}", program[0]))?;
+            .map_err(|error| format!("{} can't be started: {error}", Path::new(&program[0]).display()))?;
         let input = child.stdin.take();
         let mut output = child.stdout.take().expect("its output is a pipe");
         let (sender, replies) = channel();

@@ -5,6 +5,7 @@ use reference::answer::NO_SENSE;
 use reference::codes::{block_kind, decryption, encryption, opening_key, scope};
 use reference::comparison::page_builder::SetPage;
 use reference::comparison::session::{event, read};
+use reference::names::{name_of, READ};
 use reference::stream::kind;
 
 /// A plain block, and an encrypted one that no key opened.
@@ -146,5 +147,5 @@ fn key_words(key: u8) -> String {
 }
 
 fn read_name(decision: u8) -> &'static str {
-    ["plain", "raw", "decrypted"].get(usize::from(decision)).copied().unwrap_or("unknown")
+    name_of(&READ, decision).unwrap_or("unknown")
 }

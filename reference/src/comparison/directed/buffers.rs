@@ -47,7 +47,7 @@ fn status_of_every_length(sink: &mut Sink) {
 fn with_kads(u_kad: usize, a_kad: usize) -> Record {
     let mut record = mixed();
     record.nexuses[9].changed_by_vendor_event = false;
-    if u_kad % 2 == 0 {
+    if u_kad & 1 == 0 {
         record.nexuses[9].scope = scope::PUBLIC;
     }
     for (place, fill) in [(0, 0x55), (2, 0xEE)] {
@@ -57,7 +57,7 @@ fn with_kads(u_kad: usize, a_kad: usize) -> Record {
         set.encryption = (u_kad % 3) as u8;
         set.decryption = (a_kad % 4) as u8;
         set.ceem = ((u_kad + a_kad) % 4) as u8;
-        set.rdmd = (u_kad + a_kad) % 3 == 0;
+        set.rdmd = matches!((u_kad + a_kad) % 3, 0);
         set.number = 0x0102_0304u32.wrapping_mul(1 + u_kad as u32);
     }
     record

@@ -28,6 +28,16 @@ pub enum Group {
     Largest,
     Examples,
     Sessions,
+    ClaimRows,
+    ClaimAbove15,
+    ClaimOutcomes,
+    ClaimPowerOns,
+    ClaimLocks,
+    ClaimCounts,
+    ClaimMostWrites,
+    ClaimRates,
+    ClaimAmounts,
+    ClaimWrongFiles,
     RandomSound,
     RandomHeader,
     RandomEvent,
@@ -39,7 +49,7 @@ pub enum Group {
 }
 
 impl Group {
-    /// Every group with the number of differently named recordings that a run has to try.
+    /// Every group of the replay's comparison with the number of differently named recordings that a run has to try.
     pub const EVERY: [(Group, usize); 31] = [
         (Group::Under8Bytes, 33),
         (Group::Total, 30),
@@ -74,6 +84,20 @@ impl Group {
         (Group::RandomEventMoved, 1),
     ];
 
+    /// The groups that the claim's comparison has besides.
+    pub const OF_CLAIMS: [(Group, usize); 10] = [
+        (Group::ClaimRows, 27),
+        (Group::ClaimAbove15, 21),
+        (Group::ClaimOutcomes, 34),
+        (Group::ClaimPowerOns, 14),
+        (Group::ClaimLocks, 144),
+        (Group::ClaimCounts, 48),
+        (Group::ClaimMostWrites, 11),
+        (Group::ClaimRates, 4),
+        (Group::ClaimAmounts, 30),
+        (Group::ClaimWrongFiles, 12),
+    ];
+
     /// Whether it is of the random part.
     pub fn is_random(self) -> bool {
         self >= Group::RandomSound
@@ -106,6 +130,25 @@ impl fmt::Display for Group {
             Group::Largest => "the largest recordings",
             Group::Examples => "P1 to P10",
             Group::Sessions => "sessions",
+            group => group.claim_or_random(),
+        })
+    }
+}
+
+impl Group {
+    /// The name of one of the claim's groups or of the random ones.
+    fn claim_or_random(self) -> &'static str {
+        match self {
+            Group::ClaimRows => "writes by row and column",
+            Group::ClaimAbove15 => "writes of nexuses above 15",
+            Group::ClaimOutcomes => "writes by what decides them",
+            Group::ClaimPowerOns => "writes around power-on",
+            Group::ClaimLocks => "writes of locked nexuses",
+            Group::ClaimCounts => "counts of one to four digits",
+            Group::ClaimMostWrites => "the most writes",
+            Group::ClaimRates => "rates",
+            Group::ClaimAmounts => "amounts",
+            Group::ClaimWrongFiles => "sessions of writes in wrong files",
             Group::RandomSound => "random, sound",
             Group::RandomHeader => "random, a header number changed",
             Group::RandomEvent => "random, a field of an event changed",
@@ -114,7 +157,8 @@ impl fmt::Display for Group {
             Group::RandomLengthened => "random, lengthened",
             Group::RandomBit => "random, bits flipped",
             Group::RandomEventMoved => "random, an event dropped, doubled or swapped",
-        })
+            _ => unreachable!("the others are named above"),
+        }
     }
 }
 

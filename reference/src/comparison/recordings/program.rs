@@ -1,6 +1,7 @@
-//! The other replayer as a program that takes a recording on its standard input, started anew for each.
+//! The other program, which takes a recording on its standard input, started anew for each.
 
-use super::replayer::{Given, Outcome, Replayer, Way};
+use super::outcome::{Given, Outcome};
+use super::replayer::{Replayer, Way};
 use std::io::{self, Read, Write};
 use std::process::{Child, Command, Stdio};
 use std::sync::mpsc::{channel, Receiver};
@@ -10,28 +11,30 @@ use std::time::{Duration, Instant};
 /// How long a program may take over one recording.
 const PATIENCE: Duration = Duration::from_secs(30);
 
-/// A program and its arguments; for the record `--record` is appended.
+/// A program and its arguments.
 pub struct Program<'parts>(pub &'parts [String]);
 
+/// For the record `--record` is appended.
 impl Replayer for Program<'_> {
     fn replay(&self, file: &[u8], way: Way) -> Outcome {
-        let option = match way {
-            Way::Answers => None,
-            Way::Record => Some("--record"),
-        };
-        match self.start(option).map(|child| converse(child, file)) {
-            Ok(outcome) => outcome,
-            Err(error) => Outcome::Nothing(format!("it can't be started: {error}")),
-        }
+        self.outcome(file, (way == Way::Record).then_some("--record"))
     }
 }
 
 impl Program<'_> {
+    /// What comes of the program for a file, with one argument more or none.
+    pub fn outcome(&self, file: &[u8], argument: Option<&str>) -> Outcome {
+        match self.start(argument).map(|child| converse(child, file)) {
+            Ok(outcome) => outcome,
+            Err(error) => Outcome::Nothing(format!("it can't be started: {error}")),
+        }
+    }
+
     /// Starts the program.
-    fn start(&self, option: Option<&str>) -> io::Result<Child> {
+    fn start(&self, argument: Option<&str>) -> io::Result<Child> {
         Command::new(&self.0[0])
             .args(&self.0[1..])
-            .args(option)
+            .args(argument)
             .stdin(Stdio::piped())
             .stdout(Stdio::piped())
             .stderr(Stdio::piped())

@@ -12,8 +12,12 @@ use crate::stream::{kind, Command};
 pub struct RandomRecordings {
     numbers: Numbers,
     sessions: RandomSessions,
+    enrich: Enrich,
     made: usize,
 }
+
+/// What is made of a session's commands before they are recorded.
+type Enrich = fn(Vec<Command>, &mut Numbers) -> Vec<Command>;
 
 /// A way to damage a file; what comes out may be sound.
 type Damage = (Group, &'static str, fn(&mut Vec<u8>, &mut Numbers));
@@ -54,7 +58,13 @@ const DAMAGES: [Damage; 15] = [
 impl RandomRecordings {
     /// The recordings of a seed.
     pub fn new(seed: u64) -> Self {
-        RandomRecordings { numbers: Numbers::new(!seed), sessions: RandomSessions::new(seed), made: 0 }
+        RandomRecordings::enriched(seed, |commands, _| commands)
+    }
+
+    /// The recordings of a seed, with more commands than the sessions have by themselves.
+    pub fn enriched(seed: u64, enrich: Enrich) -> Self {
+        let numbers = Numbers::new(!seed);
+        RandomRecordings { numbers, sessions: RandomSessions::new(seed), enrich, made: 0 }
     }
 
     /// The next recording: every other one is damaged, in each way in turn.
@@ -77,7 +87,7 @@ impl RandomRecordings {
             4..=8 => 300,
             _ => 1 + self.numbers.below(50),
         };
-        let commands = self.sessions.commands(count, recorded);
+        let commands = (self.enrich)(self.sessions.commands(count, recorded), &mut self.numbers);
         let mut recording = recording_of(&commands);
         if self.numbers.percent(30) {
             self.surround_pages(&mut recording);

@@ -2,10 +2,11 @@
 
 use super::builder::requests;
 use super::case::{Case, Group};
+use super::course::Reaches;
 use crate::account::Rule;
 use crate::comparison::reached::{Item, Reached as Calls};
 use crate::record::Record;
-use crate::recording::{broken_rules, run, Event, FileRule, Recording, LONGEST, MOST_EVENTS};
+use crate::recording::{broken_rules, run, Event, FileRule, Moment, Recording, LONGEST, MOST_EVENTS};
 use crate::stream::kind;
 use std::collections::{BTreeMap, BTreeSet};
 
@@ -96,7 +97,7 @@ fn covered(pages: &[(usize, usize)]) -> usize {
 /// The counts.
 #[derive(Default)]
 pub struct Reached {
-    pub recordings: u64,
+    recordings: u64,
     refused: u64,
     groups: BTreeMap<Group, (u64, BTreeSet<String>)>,
     broken: BTreeMap<FileRule, u64>,
@@ -105,22 +106,43 @@ pub struct Reached {
     calls: Calls,
 }
 
+impl Reaches for Reached {
+    type Case = Case;
+
+    fn count(&mut self, case: &Case) {
+        self.count_showing(case, &mut |_| {});
+    }
+
+    fn recordings(&self) -> u64 {
+        self.recordings
+    }
+
+    fn text(&self) -> String {
+        self.text_of(&Group::EVERY)
+    }
+
+    fn missing_text(&self, random: bool) -> String {
+        self.missing_text_of(&Group::EVERY, random)
+    }
+}
+
 impl Reached {
-    /// Counts a recording and, where it is sound, the calls of its replay.
-    pub fn count(&mut self, case: &Case) {
+    /// Counts a recording and, where it is sound, the calls of its replay, each of which is shown.
+    pub fn count_showing(&mut self, case: &Case, show: &mut dyn FnMut(&Moment)) {
         self.recordings += 1;
         let (count, names) = self.groups.entry(case.group).or_default();
         *count += 1;
         names.insert(case.name.clone());
         match Recording::read(&case.file) {
-            Some(recording) => self.count_sound(&recording),
+            Some(recording) => self.count_sound(&recording, show),
             None => self.count_wrong(&broken_rules(&case.file)),
         }
     }
 
     /// Counts a sound recording's shapes and calls.
-    fn count_sound(&mut self, recording: &Recording) {
+    fn count_sound(&mut self, recording: &Recording, show: &mut dyn FnMut(&Moment)) {
         let end_record = run(recording, |moment| {
+            show(moment);
             self.calls.count(moment.command, moment.before, moment.reply, moment.drive.account());
         });
         for shape in Shape::EVERY.into_iter().filter(|shape| shape.is_of(recording, &end_record)) {
@@ -139,17 +161,17 @@ impl Reached {
         }
     }
 
-    /// The counts in words.
-    pub fn text(&self) -> String {
+    /// The counts in words, those of some groups among them.
+    pub fn text_of(&self, groups: &[(Group, usize)]) -> String {
         let mut text = format!("recordings: {} taken, ", self.recordings - self.refused);
         text += &format!("{} refused; {} calls replayed\n", self.refused, self.calls.calls);
-        for (group, _) in Group::EVERY {
+        for &(group, _) in groups {
             let (count, names) = self.of_group(group);
             text += &format!("{group}: {count}, of {names} names\n");
         }
-        text += &counts_text("rules of the file broken", FileRule::EVERY, &self.broken);
-        text += &counts_text("rules of the file broken alone", FileRule::EVERY, &self.broken_alone);
-        text += &counts_text("shapes of sound recordings", Shape::EVERY, &self.shapes);
+        text += &counts_text("rules of the file broken", &FileRule::EVERY, &self.broken);
+        text += &counts_text("rules of the file broken alone", &FileRule::EVERY, &self.broken_alone);
+        text += &counts_text("shapes of sound recordings", &Shape::EVERY, &self.shapes);
         text + &self.calls.text_of(calls_wanted())
     }
 
@@ -158,36 +180,37 @@ impl Reached {
         self.groups.get(&group).map_or((0, 0), |(count, names)| (*count, names.len()))
     }
 
-    /// What was never reached, in words; the random groups are asked for only where there are random recordings.
-    pub fn missing_text(&self, random: bool) -> String {
+    /// What was never reached, in words, of some groups among other things.
+    pub fn missing_text_of(&self, groups: &[(Group, usize)], random: bool) -> String {
         let mut text = String::new();
-        for (group, wanted) in Group::EVERY.into_iter().filter(|(group, _)| random || !group.is_random()) {
+        for &(group, wanted) in groups.iter().filter(|(group, _)| random || !group.is_random()) {
             let (_, names) = self.of_group(group);
             if names < wanted {
                 text += &format!("    never reached: {group}: {names} of {wanted} names\n");
             }
         }
-        text += &missing_in("rules of the file broken", FileRule::EVERY, &self.broken);
-        text += &missing_in("rules of the file broken alone", FileRule::EVERY, &self.broken_alone);
-        text += &missing_in("shapes of sound recordings", Shape::EVERY, &self.shapes);
+        text += &missing_in("rules of the file broken", &FileRule::EVERY, &self.broken);
+        text += &missing_in("rules of the file broken alone", &FileRule::EVERY, &self.broken_alone);
+        text += &missing_in("shapes of sound recordings", &Shape::EVERY, &self.shapes);
         text + &self.calls.missing_text_of(calls_wanted().into_iter())
     }
 }
 
 /// Some counts in a line.
-fn counts_text<Counted: Ord + Copy + std::fmt::Debug, const COUNT: usize>(
+fn counts_text<Counted: Ord + std::fmt::Debug>(
     title: &str,
-    every: [Counted; COUNT],
+    every: &[Counted],
     counts: &BTreeMap<Counted, u64>,
 ) -> String {
-    let parts = every.map(|counted| format!("{counted:?}: {}", counts.get(&counted).copied().unwrap_or(0)));
+    let count = |counted| format!("{counted:?}: {}", counts.get(counted).copied().unwrap_or(0));
+    let parts: Vec<String> = every.iter().map(count).collect();
     format!("{title}: {}\n", parts.join(", "))
 }
 
 /// What has no count.
-fn missing_in<Counted: Ord + Copy + std::fmt::Debug, const COUNT: usize>(
+pub fn missing_in<Counted: Ord + std::fmt::Debug>(
     title: &str,
-    every: [Counted; COUNT],
+    every: &[Counted],
     counts: &BTreeMap<Counted, u64>,
 ) -> String {
     let missing = every.iter().filter(|counted| !counts.contains_key(counted));

@@ -1,7 +1,8 @@
 //! What is printed about a difference: the short recording in hex and in words, and both results.
 
 use super::case::Case;
-use super::replayer::{Difference, Outcome, Wanted, Way};
+use super::outcome::{Outcome, Wanted};
+use super::replayer::{Difference, Way};
 use super::shrink::Short;
 use crate::answer_words::when;
 use crate::comparison::report::{fields, kind_name, rows};
@@ -15,8 +16,21 @@ const MOST_EVENTS: usize = 100;
 const MOST_BYTES: usize = 4096;
 
 /// The whole report of a difference.
-pub fn difference_text(case: &Case, short: &Short) -> String {
-    let Short { file, difference } = short;
+pub fn difference_text(case: &Case, short: &Short<Difference>) -> String {
+    let Short { file, difference: Difference { way, wanted, outcome } } = short;
+    let title = match way {
+        Way::Answers => "the answers differ",
+        Way::Record => "the records at the end (--record) differ",
+    };
+    let mut text = recording_text(case, file) + &results_text(title, file, (wanted, outcome), bytes_text);
+    if let (Way::Record, Wanted::Bytes(wanted), Outcome::Given(given)) = (way, wanted, outcome) {
+        text += &record_text(wanted, &given.output);
+    }
+    text
+}
+
+/// The short recording of a difference in hex and in words.
+pub fn recording_text(case: &Case, file: &[u8]) -> String {
     let mut text =
         format!("DIFFERENCE in \"{}: {}\"; short recording of {} bytes", case.group, case.name, file.len());
     let events = Header::read(file).and_then(|header| parts(&header, file));
@@ -24,8 +38,7 @@ pub fn difference_text(case: &Case, short: &Short) -> String {
         let _ = write!(text, " and {} events", events.len());
     }
     let _ = write!(text, ":\n{}", rows(&file[..file.len().min(MOST_BYTES)]));
-    text += &file_text(file);
-    text + &results_text(file, difference)
+    text + &file_text(file)
 }
 
 /// A file in words: the header, the events with the reference's answers, the rules that are broken.
@@ -78,41 +91,37 @@ fn event_text(event: &Event) -> String {
     text
 }
 
-/// Both results.
-fn results_text(file: &[u8], difference: &Difference) -> String {
-    let way = match difference.way {
-        Way::Answers => "the answers differ",
-        Way::Record => "the records at the end (--record) differ",
-    };
-    let mut text = format!("{way}:\n    reference: {}", wanted_text(&difference.wanted));
+/// Both results under a title, with what is written on standard output told by `tell`.
+pub fn results_text(
+    title: &str,
+    file: &[u8],
+    (wanted, outcome): (&Wanted, &Outcome),
+    tell: fn(&[u8]) -> String,
+) -> String {
+    let mut text = format!("{title}:\n    reference: {}", wanted_text(wanted, tell));
     for rule in broken_rules(file) {
         let _ = writeln!(text, "        the file breaks {rule:?}");
     }
-    let _ = write!(text, "    other: {}", outcome_text(&difference.outcome));
-    if let (Way::Record, Wanted::Bytes(wanted), Outcome::Given(given)) =
-        (difference.way, &difference.wanted, &difference.outcome)
-    {
-        text += &record_text(wanted, &given.output);
-    }
-    text
+    text + &format!("    other: {}", outcome_text(outcome, tell))
 }
 
 /// What the reference gives, in words.
-fn wanted_text(wanted: &Wanted) -> String {
+fn wanted_text(wanted: &Wanted, tell: fn(&[u8]) -> String) -> String {
     match wanted {
-        Wanted::Bytes(bytes) => bytes_text(bytes),
+        Wanted::Bytes(bytes) => tell(bytes),
         Wanted::Refusal(number) => format!("refused with {number}, nothing written\n"),
+        Wanted::Usage => "its usage, nothing written\n".to_string(),
     }
 }
 
 /// What the other program gave, in words.
-fn outcome_text(outcome: &Outcome) -> String {
+fn outcome_text(outcome: &Outcome, tell: fn(&[u8]) -> String) -> String {
     match outcome {
         Outcome::Nothing(why) => format!("{why}\n"),
-        Outcome::Given(given) if given.errors.is_empty() => bytes_text(&given.output),
+        Outcome::Given(given) if given.errors.is_empty() => tell(&given.output),
         Outcome::Given(given) => {
             let errors = String::from_utf8_lossy(&given.errors);
-            format!("on standard error {:?}, and {}", errors.trim_end(), bytes_text(&given.output))
+            format!("on standard error {:?}, and {}", errors.trim_end(), tell(&given.output))
         }
     }
 }

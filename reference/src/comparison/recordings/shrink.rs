@@ -2,7 +2,6 @@
 //! move with what is taken away, so that a sound recording stays sound, and a wrong header number stays as wrong.
 
 use super::builder::change_header;
-use super::replayer::{compare, Difference, Replayer};
 use crate::comparison::page_builder::set_length;
 use crate::recording::{broken_rules, events_end, Event, Header, EVENT_BYTES, HEADER_BYTES};
 use crate::stream::kind;
@@ -15,28 +14,42 @@ const TIME: Duration = Duration::from_secs(20);
 const RUNS: usize = 256;
 
 /// A short recording and its difference.
-pub struct Short {
+pub struct Short<Difference> {
     pub file: Vec<u8>,
     pub difference: Difference,
 }
 
-/// Tries recordings on the other replayer and keeps the last one with a difference.
-struct Shrinker<'parts> {
-    replayer: &'parts dyn Replayer,
+/// Compares a file on both sides; the difference, if any.
+pub type Compare<'parts, Difference> = dyn Fn(&[u8]) -> Option<Difference> + 'parts;
+
+/// Tries recordings on the other program and keeps the last one with a difference.
+struct Shrinker<'parts, Difference> {
+    compare: &'parts Compare<'parts, Difference>,
     sound: bool,
     tries: usize,
     end: Instant,
-    short: Short,
+    short: Short<Difference>,
+}
+
+/// The difference over a recording, which is made short if that is asked for.
+pub fn difference<Difference>(
+    file: &[u8],
+    compare: &Compare<Difference>,
+    made_short: bool,
+) -> Option<Short<Difference>> {
+    let difference = compare(file)?;
+    let short = Short { file: file.to_vec(), difference };
+    Some(if made_short { shrink(short, compare) } else { short })
 }
 
 /// Makes a recording short.
-pub fn shrink(replayer: &dyn Replayer, file: &[u8], difference: Difference) -> Short {
+fn shrink<Difference>(short: Short<Difference>, compare: &Compare<Difference>) -> Short<Difference> {
     let mut shrinker = Shrinker {
-        replayer,
-        sound: broken_rules(file).is_empty(),
+        compare,
+        sound: broken_rules(&short.file).is_empty(),
         tries: TRIES,
         end: Instant::now() + TIME,
-        short: Short { file: file.to_vec(), difference },
+        short,
     };
     loop {
         let before = shrinker.short.file.clone();
@@ -50,7 +63,7 @@ pub fn shrink(replayer: &dyn Replayer, file: &[u8], difference: Difference) -> S
     }
 }
 
-impl Shrinker<'_> {
+impl<Difference> Shrinker<'_, Difference> {
     /// Keeps a file if it has a difference and is sound or wrong as the first was.
     fn keep(&mut self, file: Option<Vec<u8>>) -> bool {
         let Some(file) = file.filter(|file| *file != self.short.file) else { return false };
@@ -58,7 +71,7 @@ impl Shrinker<'_> {
             return false;
         }
         self.tries -= 1;
-        match compare(self.replayer, &file) {
+        match (self.compare)(&file) {
             None => false,
             Some(difference) => {
                 self.short = Short { file, difference };
