@@ -24,10 +24,10 @@ use Rattle.drive.specs.Checks.{answer}
 use Rattle.drive.specs.After.{after}
 use Rattle.drive.specs.Runs.{runFrom, run}
 use Rattle.drive.specs.Outcomes.{valueOf}
-use Rattle.drive.specs.Due.{Heard, modeOf, Passes, becomes, Exactly}
+use Rattle.due.specs.Due.{Heard, modeOf, Passes, becomes, Exactly}
 use Rattle.drive.specs.declared.Decision.{Decision}
 use Rattle.drive.specs.declared.Decision.the-variants.{Refused, Clear, External, Encrypted}
-use Rattle.drive.proofs.Due.{write-due, write-becomes}
+use Rattle.due.proofs.Due.{write-due, write-becomes}
 use Rattle.kept.proofs.Runs.{since-power-on}
 use Rattle.history.specs.History.{isHeard, isStopped, drew}
 use Rattle.history.proofs.Demand.{demand3, demand3-shown}
@@ -37,6 +37,7 @@ use Rattle.wire.proofs.Bytes.{Below}
 use Rattle.recording.specs.Files.{soundFile, eventBytes, pageBytes, callsOf}
 use Rattle.recording.proofs.Entries.{length-calls}
 use Rattle.recording.proofs.Files.{sound-header, length-events}
+use Rattle.claim.specs.Files.{fileWrites}
 use Rattle.claim.specs.Writes.{Wrote, writesFrom}
 use Rattle.claim.specs.Rows.{rowOfNexus, countsAs, counted, rowFor}
 use Rattle.claim.specs.Claimable.{Claimable}
@@ -59,6 +60,14 @@ counted-at nexuses k d s before n supported later =
     let w = written s before n supported in
     let rest = writesFrom (after t (write n supported)) later in
     ap (counted nexuses k d) (writes-append s before (write n supported ∷ later)) ∙ omega (arith, count-append p (writesFrom s before) (w ∷ rest), count-cons p w rest)
+
+-- So of every file: row by row and column by column.
+pub counted-in-file : (nexuses places : ℕ) (file : List ℕ) (before : List Call) (n : ℕ) (supported : Bool) (later : List Call) → callsOf file ≡ before ++ write n supported ∷ later
+    → (k : ℕ) (d : Decision) → let start = powerOn nexuses places in
+    counted nexuses k d (fileWrites nexuses places file)
+    ≡ counted nexuses k d (writesFrom start before) + (bit (countsAs nexuses k d (written start before n supported)) + counted nexuses k d (writesFrom (after (runFrom start before) (write n supported)) later))
+counted-in-file nexuses places file before n supported later parts k d =
+    ap (λ calls. counted nexuses k d (writesFrom (powerOn nexuses places) calls)) parts ∙ counted-at nexuses k d (powerOn nexuses places) before n supported later
 
 -- ---- when it is counted as encrypted
 

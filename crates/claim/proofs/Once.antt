@@ -1,6 +1,6 @@
 -- Every write is counted once, in its own nexus's row.
 -- Assumes nothing.
-use Prim.Native.Nat.{ℕ, _≤_, _<_}
+use Prim.Native.Nat.{ℕ, _≤_, _<_, zero, suc, _+_}
 use mathlib.Core.Path.{_≡_, refl, sym, ap, _∙_}
 use mathlib.Core.Logic.{_⊎_, inl, inr, ⊎-elim}
 use mathlib.Core.Bool.{Bool, true, false, _&&_, and-false}
@@ -8,7 +8,7 @@ use mathlib.Core.List.{List, [], _∷_}
 use native.Mathlib.Omega.{arith}
 use borrow.Author.Tests.{eqb-false, ne-eqb, ltb-true, ltb-false, lt-ltb, le-ltb}
 use lib.Dec.{eqb, ltb}
-use lib.ListN.{length}
+use lib.ListN.{length, getD}
 use Rattle.arrays.specs.Base.{bit}
 use Rattle.arrays.proofs.Base.{cases, if-true, if-false}
 use Rattle.arrays.proofs.Appending.{count-append}
@@ -18,15 +18,16 @@ use Rattle.places.proofs.Lengths.{power-nexuses}
 use Rattle.drive.specs.Calls.{Call, powerUp, securityIn, securityOut, write, read, unitReset, happens}
 use Rattle.drive.specs.After.{after}
 use Rattle.drive.specs.Outcomes.{valueOf, decision}
-use Rattle.drive.specs.Due.{becomes, Exactly}
+use Rattle.due.specs.Due.{becomes, Exactly}
 use Rattle.drive.specs.declared.Decision.{Decision}
 use Rattle.drive.specs.declared.Decision.the-variants.{Refused, Clear, External, Encrypted}
-use Rattle.drive.proofs.Due.{sent-due}
+use Rattle.due.proofs.Due.{sent-due}
 use Rattle.recording.specs.Entries.{entries}
 use Rattle.recording.specs.Files.{eventBytes, pageBytes}
 use Rattle.kept.proofs.Runs.{call-size}
-use Rattle.claim.specs.Writes.{wrote, writesFrom}
-use Rattle.claim.specs.Rows.{rowOfNexus, countsAs, counted, rowFor, totals, writesIn}
+use native.Mathlib.Nat.{not-suc-le-zero, le-of-suc-le-suc, zero-add}
+use Rattle.claim.specs.Writes.{wrote, writesFrom, Wrote}
+use Rattle.claim.specs.Rows.{rowOfNexus, countsAs, counted, rowFor, totals, writesIn, rowsFrom, rowsOf, noWrites}
 use Rattle.claim.specs.Files.{fileRows, writeEvents, fileWrites}
 use Rattle.claim.specs.Claimable.{RefusedAlone}
 use Rattle.claim.proofs.Sums.{rows-sum}
@@ -50,6 +51,17 @@ own-row nexuses n k = (
       (λ above. if-false (ltb n nexuses) n nexuses (le-ltb n nexuses (above .0)) ∙ above .1)
       h,
 )
+
+-- Line k of the rows is row k: the counts of the writes whose row it is.
+rows-at : (nexuses j rows k : ℕ) (writes : List Wrote) → k < rows → getD (rowsFrom nexuses j rows writes) k noWrites ≡ rowFor nexuses (j + k) writes
+unfolding rowsFrom
+rows-at nexuses j zero k writes h = absurd (not-suc-le-zero h)
+rows-at nexuses j (suc rows) zero writes h = let e : j ≡ j + 0 = omega arith in ap (λ i. rowFor nexuses i writes) e
+rows-at nexuses j (suc rows) (suc k) writes h =
+    let e : suc j + k ≡ j + suc k = omega arith in rows-at nexuses (suc j) rows k writes (le-of-suc-le-suc h) ∙ ap (λ i. rowFor nexuses i writes) e
+
+pub row-at : (nexuses k : ℕ) (writes : List Wrote) → k < suc nexuses → getD (rowsOf nexuses writes) k noWrites ≡ rowFor nexuses k writes
+row-at nexuses k writes h = rows-at nexuses 0 (suc nexuses) k writes h ∙ ap (λ i. rowFor nexuses i writes) (zero-add k)
 
 -- ---- the last row
 

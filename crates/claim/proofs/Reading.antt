@@ -1,7 +1,7 @@
 -- The text, read line by line and word by word, gives the numbers back.
 -- Assumes nothing.
 use Prim.Native.Nat.{ℕ, zero, suc, _+_, _<_}
-use mathlib.Core.Path.{_≡_, refl, sym, ap, ap₂, _∙_}
+use mathlib.Core.Path.{_≡_, refl, sym, ap, ap₂, _∙_, subst}
 use mathlib.Core.Bool.{true, not}
 use mathlib.Core.List.{List, [], _∷_, _++_, map, append-assoc, append-nil}
 use native.Mathlib.Nat.{not-suc-le-zero, le-of-suc-le-suc, zero-add}
@@ -16,6 +16,9 @@ use Rattle.text.specs.Decimal.{decimal, readDecimal}
 use Rattle.text.specs.Pieces.{pieces, isWhole, linesOf, wordsOf, numbersOf}
 use Rattle.text.proofs.Decimal.{decimal-spells}
 use Rattle.text.proofs.Pieces.{decimal-whole, cut-after, cut-never}
+use Rattle.recording.specs.declared.Verdict.the-variants.{Done}
+use Rattle.claim.proofs.Claiming.{all-printed}
+use Rattle.claim.specs.Files.{claimVerdict, fileRows, claimText, claimPrinted}
 use Rattle.claim.specs.declared.Row.{Row}
 use Rattle.claim.specs.Rows.{noWrites, totals}
 use Rattle.claim.specs.Lines.{spaced, columns, rowLine, rowLines, totalLine, amountOf, claimLines}
@@ -133,3 +136,9 @@ text-reads rate rows =
       row = λ k h. ap (λ l. numbersOf (getD l k [])) all ∙ ap numbersOf (text-at 0 rows tail k h ∙ ap (λ i. rowText i (getD rows k noWrites)) (zero-add k)) ∙ row-reads k (getD rows k noWrites);
       total = ap (λ l. wordsOf (getD l (length rows) [])) all ∙ ap wordsOf (ap (λ k. getD (texts 0 rows ++ tail) k []) (sym zeroth) ∙ text-past 0 rows tail 0) ∙ total-reads total (amountOf rate total);
     }
+
+-- And so does what is printed of every file and rate that is taken.
+pub claim-reads : (nexuses places rate : ℕ) (file : List ℕ) → claimVerdict rate file ≡ Done → ReadsAs rate (fileRows nexuses places file) (claimPrinted nexuses places rate file)
+unfolding claimText
+claim-reads nexuses places rate file e =
+    subst (ReadsAs rate (fileRows nexuses places file)) (sym (all-printed nexuses places rate file e)) (text-reads rate (fileRows nexuses places file))

@@ -7,7 +7,7 @@ use Rattle.parameters.specs.Codes.{encrypt}
 use Rattle.device.specs.Record.{nexusAt}
 use Rattle.drive.specs.Calls.{Call}
 use Rattle.drive.specs.Runs.{run}
-use Rattle.drive.specs.Due.{modeOf}
+use Rattle.due.specs.Due.{modeOf}
 use Rattle.history.specs.History.{Latest, placeLeft, reading, touched}
 use Rattle.claim.specs.declared.Row.{Row}
 use Rattle.claim.specs.Rows.{plus, plusRows, totals}

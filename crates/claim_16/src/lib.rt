@@ -87,12 +87,7 @@ pub fn tally(events: &[u8], pages: &[u8]) -> [Row; ROWS]
         let noted = note(rows, asked, claim_code::became(answer, sight.set));
         rows = noted;
         if !quiet.quiet {
-            let outcome = calls_16::perform(
-                after,
-                true,
-                asked,
-                recording_code::page_of(e, pages),
-            );
+            let outcome = calls_16::perform(after, true, asked, recording_code::page_of(e, pages));
             after = outcome.device;
         }
         rest = &rest[ENTRY_SIZE..];

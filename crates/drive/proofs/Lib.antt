@@ -8,6 +8,5 @@ pub mod RestoringTable
 pub mod CeemTable
 pub mod Same
 pub mod Seen
-pub mod Due
 pub mod Sending
 pub mod Table

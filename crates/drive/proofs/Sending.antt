@@ -20,8 +20,7 @@ module _ (s : State) (command : Command) (reached : Reached s command) (page : L
       answer s (securityOut command page) ≡ firstOf (read .answer ∷ check10 s (command .nexus) (read .page) ∷ [])
   unfolding answer checks
   page-decides =
-      let heard = reached .heard in
-      simp (heard .known .formed, lt-leb _ _ (heard .known .within), heard .another, heard .vendor, eq-eqb _ _ (reached .protocol), eq-eqb _ _ (reached .code))
+      simp (reached .formed, lt-leb _ _ (reached .within), reached .another, reached .vendor, eq-eqb _ _ (reached .protocol), eq-eqb _ _ (reached .code))
 
   -- A page that makes a set with CEEM 10b or 11b and decryption DISABLE is answered 8, whoever sends it.
   pub ceem-refused : MakesSet page → CeemFault page → answer s (securityOut command page) ≡ FieldWrong

@@ -8,5 +8,4 @@ pub mod Outcomes
 pub mod Claims
 pub mod Refusals
 pub mod RestoringClaims
-pub mod Due
 pub mod Sending

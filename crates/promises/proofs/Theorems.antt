@@ -36,7 +36,7 @@ pub use Rattle.record.proofs.Formed.{good-is-formed}
 pub use Rattle.drive.proofs.Table.{table, proved, further, further-proved}
 -- Whoever sends: each of answers 1 to 4 is due where document 01 says; of a security command 5 and 6, of IN then 0, of a write 11, 12
 -- and 0. And a block goes down encrypted, external or clear exactly if nothing stops its write and its set has the mode of that name.
-pub use Rattle.drive.proofs.Due.{sent-due, in-due, out-due, write-due, write-becomes}
+pub use Rattle.due.proofs.Due.{sent-due, in-due, out-due, write-due, write-becomes}
 -- The lock doesn't stop reads: two records that differ only in locks and saved numbers answer a read alike, and 11 is never its answer.
 pub use Rattle.drive.proofs.Restoring.{lock-free, read-numbers, never-11}
 -- A read acts on no set, draws no number, registers nobody and changes nothing but a pending flag of its sender.
@@ -127,16 +127,16 @@ pub use Rattle.claim.proofs.Claiming.{wrong-first, rate-above, claim-taken, not
 -- Every write event is counted once: the sum of all rows is the number of write events, taken from the file's bytes.
 pub use Rattle.claim.proofs.Once.{sum-is-events}
 -- It is counted in its own nexus's row; the last row, of nexuses above the drive's, has refused writes alone.
-pub use Rattle.claim.proofs.Once.{own-row, last-row, last-row-of}
+pub use Rattle.claim.proofs.Once.{own-row, row-at, last-row, last-row-of}
 -- The totals are the column sums, and count every write once, whatever row it stands in.
 pub use Rattle.claim.proofs.Sums.{totals-are, rows-sum}
 -- A write is counted as encrypted exactly if the drive, at that point of the session, answered it 0 with decision encrypted: by any calls
 -- since power-on, and of every sound file.
-pub use Rattle.claim.proofs.Exactly.{counted-at, encrypted-exactly, claimed-exactly}
+pub use Rattle.claim.proofs.Exactly.{counted-at, counted-in-file, encrypted-exactly, claimed-exactly}
 -- EXTERNAL and clear are never claimed, nor is a write that is answered with another number than 0.
 pub use Rattle.claim.proofs.Exactly.{never-claimed, refused-never-claimed}
 -- The text, read line by line and word by word, gives the rows' numbers and counts, the totals and the amount.
-pub use Rattle.claim.proofs.Reading.{text-reads}
+pub use Rattle.claim.proofs.Reading.{text-reads, claim-reads}
 -- No sum and no amount overflows, and the text has at most 23 bytes a row and 44 for the totals.
 pub use Rattle.claim.proofs.Claiming.{claim-fits, amount-most}
 pub use Rattle.claim.proofs.Long.{text-few}

@@ -12,7 +12,7 @@ use Rattle.device.specs.Record.{State, nexusAt, powerOn}
 use Rattle.device.specs.Selecting.{selected, selectedSet}
 use Rattle.device.specs.WellFormed.{wellFormed}
 use Rattle.drive.specs.Calls.{Call, write}
-use Rattle.drive.specs.Due.{Exactly}
+use Rattle.due.specs.Due.{Exactly}
 use Rattle.drive.specs.declared.Decision.the-variants.{Encrypted}
 use Rattle.drive.specs.Checks.{pageChecked}
 use Rattle.drive.specs.Runs.{runFrom, run}

@@ -19,15 +19,15 @@ use Rattle.device.specs.WellFormed.{wellFormed}
 use Rattle.device.proofs.WellFormed.{set-at}
 use Rattle.marks.specs.Marks.{isActor}
 use Rattle.status.specs.Pages.{isInPage, isOutPage}
 use Rattle.drive.specs.declared.Command.{Command}
 use Rattle.drive.specs.declared.Decision.{Decision}
 use Rattle.drive.specs.declared.Decision.the-variants.{Refused, Clear, External, Encrypted}
 use Rattle.drive.specs.Calls.{Call, powerUp, securityIn, securityOut, write, read, unitReset, happens, senderOf}
 use Rattle.drive.specs.Checks.{firstOf, check1, check5, check6, check10, pageChecked, heardOf, commandedOf, permitted, checks, answer, instanceChanged, notUsable}
 use Rattle.drive.specs.Restoring.{restored}
 use Rattle.drive.specs.Outcomes.{decided, valueOf, decision}
-use Rattle.drive.specs.Due.{SentDue, CommandDue, InDue, Held, modeOf, WriteDue, Passes, becomes, Exactly, Becomes}
+use Rattle.due.specs.Due.{SentDue, CommandDue, InDue, Held, modeOf, WriteDue, Passes, becomes, Exactly, Becomes}
 use Rattle.drive.proofs.Checks.{all-done, passed}
 
 -- the checks of a page
 abbrev page-checks : State → Command → List ℕ → List Answer
