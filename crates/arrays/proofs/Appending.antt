@@ -1,13 +1,13 @@
 -- Folds that ask for no index: over a list after another, and over the first elements.
 -- Assumes nothing.
 use Prim.Native.Nat.{ℕ, suc, _+_, _≤_}
-use mathlib.Core.Path.{_≡_, refl, sym, ap, _∙_}
+use mathlib.Core.Path.{_≡_, refl, ap}
 use mathlib.Core.List.{List, [], _∷_, _++_}
-use mathlib.Core.Bool.{Bool, true, _&&_, and-assoc}
+use mathlib.Core.Bool.{Bool}
 use native.Mathlib.Omega.{arith}
 use lib.ListN.{length}
 use Rattle.arrays.specs.Base.{bit}
-use Rattle.arrays.specs.Arrays.{foldFrom, all, count}
+use Rattle.arrays.specs.Arrays.{foldFrom, count}
 use Rattle.arrays.proofs.Loops.{bit-few}
 
 -- it matters not where the index starts
@@ -16,14 +16,6 @@ fold-shift g z k j [] = refl
 fold-shift g z k j (x ∷ xs) = ap (g x) (fold-shift g z (suc k) (suc j) xs)
 
 module _ {A : Type 0} (p : A → Bool) where
-  pub all-cons : (x : A) (xs : List A) → all p (x ∷ xs) ≡ (p x && all p xs)
-  all-cons x xs = ap (λ b. p x && b) (fold-shift (λ x r. p x && r) true 1 0 xs)
-
-  pub all-append : (xs ys : List A) → all p (xs ++ ys) ≡ (all p xs && all p ys)
-  all-append [] ys = refl
-  all-append (x ∷ xs) ys =
-      all-cons x (xs ++ ys) ∙ ap (λ b. p x && b) (all-append xs ys) ∙ sym (and-assoc (p x) (all p xs) (all p ys)) ∙ ap (λ b. b && all p ys) (sym (all-cons x xs))
-
   pub count-cons : (x : A) (xs : List A) → count (λ k. p) (x ∷ xs) ≡ bit (p x) + count (λ k. p) xs
   count-cons x xs = ap (λ n. bit (p x) + n) (fold-shift (λ x r. bit (p x) + r) 0 1 0 xs)
 

@@ -9,7 +9,7 @@ use native.Mathlib.Omega.{arith}
 use lib.Dec.{eqb, lit<}
 use lib.ListN.{length, getD, length-append}
 use Rattle.arrays.proofs.Base.{both}
-use Rattle.arrays.proofs.Appending.{all-append}
+use Rattle.arrays.proofs.Laws.{all-append}
 use Rattle.wire.specs.Parts.{joined}
 use Rattle.text.specs.Characters.{bytesOf}
 use Rattle.text.specs.Decimal.{decimal, readDecimal}

@@ -127,7 +127,7 @@ module _ (more : List ℕ) where
       ∙ ap (λ (l : List Entry). entryOf bytes ∷ l) (append-count n (drop 8 bytes) d)
       ∙ sym (ap (λ (l : List Entry). l ++ entries more) (entries-more bytes h))
 
-  entries-append : (bytes : List ℕ) → length bytes % 8 ≡ 0 → entries (bytes ++ more) ≡ entries bytes ++ entries more
+  pub entries-append : (bytes : List ℕ) → length bytes % 8 ≡ 0 → entries (bytes ++ more) ≡ entries bytes ++ entries more
   entries-append bytes h = append-count (length bytes / 8) bytes (omega arith)
 
 -- ---- the calls

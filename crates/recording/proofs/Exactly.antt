@@ -31,13 +31,13 @@ module _ (pageCount : ℕ) where
   unfolding sound
   event-sound e s = simp (le-leb _ _ (s .kind), le-leb _ _ (s .nexus), le-leb _ _ (s .argument), le-leb _ _ (s .page))
 
-  events-told : (l : List Entry) → allSound pageCount l ≡ true → Each (SoundEvent pageCount) l
+  pub events-told : (l : List Entry) → allSound pageCount l ≡ true → Each (SoundEvent pageCount) l
   events-told [] h = tt
   events-told (e ∷ l) h =
       let split : (sound pageCount e && allSound pageCount l) ≡ true = sym (all-cons (sound pageCount) e l) ∙ h in
       (event-told e (and-left (sound pageCount e) (allSound pageCount l) split), events-told l (and-right (sound pageCount e) (allSound pageCount l) split))
 
-  events-sound : (l : List Entry) → Each (SoundEvent pageCount) l → allSound pageCount l ≡ true
+  pub events-sound : (l : List Entry) → Each (SoundEvent pageCount) l → allSound pageCount l ≡ true
   events-sound [] s = refl
   events-sound (e ∷ l) s = all-cons (sound pageCount) e l ∙ both (sound pageCount e) (allSound pageCount l) (event-sound e (s .0)) (events-sound l (s .1))
 

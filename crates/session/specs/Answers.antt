@@ -9,6 +9,9 @@ use Rattle.drive.specs.Calls.{Call}
 use Rattle.drive.specs.Checks.{answer}
 use Rattle.drive.specs.After.{after}
 
+abbrev pub answerSize : ℕ
+answerSize = 4
+
 abbrev pub fourOf : Answer → List ℕ
 fourOf a = numberOf a ∷ senseOf a .key ∷ senseOf a .asc ∷ senseOf a .ascq ∷ []
 

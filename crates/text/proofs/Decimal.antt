@@ -13,7 +13,7 @@ use lib.ListN.{length, getD, drop, length-append, drop-of-length-le}
 use lib.Seq.{drop-cons}
 use Rattle.arrays.specs.Arrays.{all}
 use Rattle.arrays.proofs.Base.{cases, both, if-elim, if-true, if-false}
-use Rattle.arrays.proofs.Appending.{all-append}
+use Rattle.arrays.proofs.Laws.{all-append}
 use Rattle.text.specs.Decimal.{zeroDigit, digit, digitsWithin, decimal, isDigit, readAfter, readDecimal, isDecimal, readMost, atMost}
 use Rattle.text.specs.Spelled.{Spelled}
 

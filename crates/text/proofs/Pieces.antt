@@ -9,7 +9,7 @@ use borrow.Author.Tests.{eq-eqb, ne-eqb, leb-true, not-true}
 use lib.Dec.{eqb, leb}
 use Rattle.arrays.specs.Arrays.{all}
 use Rattle.arrays.proofs.Base.{both, and-both}
-use Rattle.arrays.proofs.Appending.{all-cons}
+use Rattle.arrays.proofs.Laws.{all-cons}
 use Rattle.text.specs.Decimal.{zeroDigit, digit, decimal, isDigit}
 use Rattle.text.specs.Pieces.{extended, pieces, isWhole}
 use Rattle.text.proofs.Decimal.{all-digits}

@@ -130,7 +130,13 @@ impl Recording {
 /// The events that a header counts, from byte 8 on, and the bytes after them; nothing where the file ends before.
 pub fn parts<'file>(header: &Header, file: &'file [u8]) -> Option<(Vec<Event>, &'file [u8])> {
     let end = events_end(usize::from(header.event_count));
-    let events = file.get(HEADER_BYTES..end)?.chunks_exact(EVENT_BYTES);
-    let events = events.map(|bytes| Event::read(bytes.try_into().expect("eight bytes"))).collect();
+    let (events, _) = whole_events(file.get(HEADER_BYTES..end)?);
     Some((events, &file[end..]))
+}
+
+/// The whole events that some bytes hold, right or wrong, and what is left over: a part event, or nothing.
+pub fn whole_events(bytes: &[u8]) -> (Vec<Event>, &[u8]) {
+    let events = bytes.chunks_exact(EVENT_BYTES);
+    let left_over = events.remainder();
+    (events.map(|bytes| Event::read(bytes.try_into().expect("eight bytes"))).collect(), left_over)
 }

@@ -47,7 +47,7 @@ pub fn replay(file: &[u8]) -> Replayed {
     }
 }
 
-/// An event of a replay: the call it stands for, the record before it, the reply, and the drive after it.
+/// An event that is run: the call it stands for, the record before it, the reply, and the drive after it.
 pub struct Moment<'run> {
     pub event: &'run Event,
     pub command: &'run Command,
@@ -56,17 +56,21 @@ pub struct Moment<'run> {
     pub drive: &'run Drive,
 }
 
-/// "Replay starts from power-on": the events in order on one drive, each shown when it is done. Gives the record at the
-/// end.
-pub fn run(recording: &Recording, mut show: impl FnMut(&Moment)) -> Record {
+/// "Replay starts from power-on": the events on a drive of their own. Gives the record at the end.
+pub fn run(recording: &Recording, show: impl FnMut(&Moment)) -> Record {
     let mut drive = Drive::new();
+    run_on(&mut drive, recording, show);
+    drive.controller().record.clone()
+}
+
+/// The events in order on one drive, from the record that it has, each shown when it is done.
+pub fn run_on(drive: &mut Drive, recording: &Recording, mut show: impl FnMut(&Moment)) {
     for event in &recording.events {
         let command = recording.command(event);
         let before = drive.controller().record.clone();
         let reply = drive.answer(&command);
-        show(&Moment { event, command: &command, before: &before, reply: &reply, drive: &drive });
+        show(&Moment { event, command: &command, before: &before, reply: &reply, drive });
     }
-    drive.controller().record.clone()
 }
 
 /// "answer number and sense triple, zeros where there is none".

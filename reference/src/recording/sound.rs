@@ -69,6 +69,17 @@ impl FileRule {
         FileRule::PagePastEnd,
     ];
 
+    /// The rules of an event: "a wrong field" of one, or its page.
+    pub const OF_EVENTS: [FileRule; 7] = [
+        FileRule::Kind,
+        FileRule::SupportFlag,
+        FileRule::UnusedNexus,
+        FileRule::UnusedArgument,
+        FileRule::UnusedPageOffset,
+        FileRule::UnusedPageLength,
+        FileRule::PagePastEnd,
+    ];
+
     /// What of a file the rule is about.
     pub fn part(self) -> Part {
         match self {
@@ -125,14 +136,18 @@ pub fn broken(file: &[u8]) -> Vec<Broken> {
     let mut broken: Vec<Broken> = header_rules(&header, file.len()).into_iter().map(of_file).collect();
     match parts(&header, file) {
         None => broken.push(of_file(FileRule::EventsPastEnd)),
-        Some((events, page_bytes)) => {
-            for (position, event) in events.into_iter().enumerate() {
-                let rules = event_rules(&event, page_bytes.len()).into_iter();
-                broken.extend(rules.map(|rule| Broken { rule, event: Some((position, event)) }));
-            }
-        }
+        Some((events, page_bytes)) => broken.extend(broken_by_events(&events, page_bytes.len())),
     }
     broken
+}
+
+/// The rules that some events break over so many page bytes, each where it is broken, in the events' order.
+pub fn broken_by_events(events: &[Event], page_bytes: usize) -> Vec<Broken> {
+    let of_event = |(position, &event): (usize, &Event)| {
+        let rules = event_rules(&event, page_bytes).into_iter();
+        rules.map(move |rule| Broken { rule, event: Some((position, event)) })
+    };
+    events.iter().enumerate().flat_map(of_event).collect()
 }
 
 /// The rules that a file breaks, in order and each once.

@@ -1,0 +1,174 @@
+-- Batches, by computing: verdict, each byte of the lent buffer, and the whole record at the end.
+-- Assumes nothing.
+use Prim.Native.Nat.{ℕ, zero, suc, _+_, _-_, _*_}
+use mathlib.Core.Bool.{true, false}
+use mathlib.Core.List.{List, [], _∷_, _++_}
+use lib.Dec.{T}
+use lib.ListN.{take, replicate}
+use Rattle.wire.specs.Parts.{joined, parts}
+use Rattle.kad.specs.Reading.{descriptorRules, listed}
+use Rattle.parameters.specs.Codes.{localScope}
+use Rattle.page.specs.Fields.{listOf}
+use Rattle.page.specs.Rules.{openRules, modeRules, plainRules, keyRules, setRules, matchRules, endRules, supplementalRules}
+use Rattle.page.specs.Check.{publicPage, supplementalPage, setPage, checked}
+use Rattle.device.specs.Record.{State, powerOn}
+use Rattle.device.specs.Selecting.{ownedPlace, selected}
+use Rattle.device.specs.WellFormed.{setGood, nexusGood, ownerIsLocal, wellFormed}
+use Rattle.device.specs.Updates.{withScope, atNexus}
+use Rattle.marks.specs.Marks.{changes, flagged}
+use Rattle.marks.specs.Reset.{cleared}
+use Rattle.places.specs.Actions.{act, acts, releases, ownPlace, room, pageActions, senderAfter, supplemented, taken}
+use Rattle.places.specs.declared.Event.the-variants.{Demount}
+use Rattle.drive.specs.Calls.{Call, securityIn, write, happens}
+use Rattle.drive.specs.Restoring.{underMode}
+use Rattle.drive.specs.Checks.{checks, answer}
+use Rattle.drive.specs.Effects.{effectBy}
+use Rattle.drive.specs.After.{actionsOf, changedBy, carriedOut}
+use Rattle.drive.specs.Runs.{runFrom}
+use Rattle.drive.specs.Claims.{pageK, locked, command, sends, since, sameRecord}
+use Rattle.calls.specs.Asking.{eventOf, askedOf}
+use Rattle.recording.specs.Forms.{formOf}
+use Rattle.recording.specs.Entries.{entryOf, sound, call}
+use Rattle.recording.specs.Claims.{event}
+use Rattle.session.specs.Answers.{answersFrom}
+use Rattle.batch.specs.Claims.{Batch, takes, refuses, batched}
+
+-- four bytes of an answer
+abbrev four : ℕ → ℕ → ℕ → ℕ → List ℕ
+four number key asc ascq = number ∷ key ∷ asc ∷ ascq ∷ []
+
+abbrev done : List ℕ
+done = four 0 0 0 0
+
+-- so many times the same bytes
+abbrev times : ℕ → List ℕ → List ℕ
+times zero bytes = []
+times (suc n) bytes = bytes ++ times n bytes
+
+-- page K from nexus 3
+abbrev K : List ℕ
+K = pageK locked
+
+abbrev sendsK : List ℕ
+sendsK = event 2 3 0x10 0 52
+
+abbrev writes : List ℕ
+writes = event 3 3 1 0 0
+
+abbrev powers : List ℕ
+powers = event 0 0 0 0 0
+
+-- n events: nexus 3 sends K, then writes
+abbrev several : ℕ → List ℕ
+several n = sendsK ++ times (n - 1) writes
+
+-- ---- starting records
+
+abbrev fresh : State
+fresh = since []
+
+-- nexus 3 has sent K
+abbrev used : State
+used = since (sends 3 K ∷ [])
+
+-- it, and again
+abbrev again : State
+again = since (sends 3 K ∷ sends 3 K ∷ [])
+
+-- a bit away from well formed: nexus 7 is LOCAL and has no place
+abbrev unformed : State
+unformed = atNexus 7 (withScope localScope) used
+
+-- ---- the limits: a buffer that is a byte short, one that just holds the answers, and one with a byte beyond
+
+abbrev limits : ℕ → State → (events answers : List ℕ) → (end : State) → List Batch → List Batch
+limits n s events answers end more =
+    refuses s events K (4 * n - 1) 18 ∷ takes s events K (4 * n) answers 0 end ∷ takes s events K (4 * n + 1) answers 1 end ∷ more
+
+-- more than 64 events, whatever the buffer
+abbrev above : ℕ → State → (events : List ℕ) → List Batch → List Batch
+above n s events more = refuses s events K (4 * n - 1) 18 ∷ refuses s events K (4 * n) 18 ∷ refuses s events K (4 * n + 1) 18 ∷ more
+
+unfoldable pub formed-table : List Batch
+formed-table =
+    takes used [] K 0 [] 0 used
+    ∷ takes used [] K 1 [] 1 used
+    ∷ limits 1 used (several 1) done again
+    (limits 63 used (several 63) (times 63 done) again
+    (limits 64 used (several 64) (times 64 done) again
+    (above 65 used (several 65)
+    [])))
+
+-- "each event answers 1 until a power-on"
+unfoldable pub unformed-table : List Batch
+unformed-table =
+    takes unformed [] K 0 [] 0 unformed
+    ∷ takes unformed [] K 1 [] 1 unformed
+    ∷ limits 1 unformed (several 1) (four 1 0 0 0) unformed
+    (limits 63 unformed (several 63) (times 63 (four 1 0 0 0)) unformed
+    (limits 64 unformed (several 64) (times 64 (four 1 0 0 0)) unformed
+    (above 65 unformed (several 65)
+    [])))
+
+-- a power-on first, in the middle, and last
+unfoldable pub mended-table : List Batch
+mended-table =
+    limits 1 unformed powers done fresh
+    (limits 63 unformed (several 30 ++ powers ++ several 32) (times 30 (four 1 0 0 0) ++ times 33 done) used
+    (limits 64 unformed (powers ++ several 63) (times 64 done) used
+    (limits 64 unformed (several 63 ++ powers) (times 63 (four 1 0 0 0) ++ done) fresh
+    (above 65 unformed (powers ++ several 64)
+    []))))
+
+-- ---- the rules
+
+abbrev wrongs : List ℕ
+wrongs = event 12 0 0 0 0
+
+-- P7: nexus 3 sends K, its volume is taken out; it is told, its write is stopped
+abbrev p7 : List ℕ
+p7 = sendsK ++ writes ++ event 3 3 0 0 0 ++ event 5 0 0 0 0 ++ writes ++ writes
+
+abbrev p7-told : List ℕ
+p7-told = done ++ done ++ four 12 7 0x74 0x07 ++ done ++ four 4 6 0x2A 0x12 ++ four 11 7 0x2A 0x13
+
+abbrev p7-made : List Call
+p7-made = sends 3 K ∷ write 3 true ∷ write 3 false ∷ happens Demount ∷ write 3 true ∷ write 3 true ∷ []
+
+unfoldable pub rules-table : List Batch
+rules-table =
+    -- "it must equal the same events sent one by one, refused ones included"; "bytes beyond kept"
+    takes fresh p7 K 24 p7-told 0 (since p7-made)
+    ∷ takes fresh p7 K 40 p7-told 16 (since p7-made)
+    ∷ takes used p7 K 24 p7-told 0 (since (sends 3 K ∷ p7-made))
+    ∷ takes fresh (event 3 16 1 0 0 ++ event 1 3 0x77 0 0 ++ event 2 3 0x10 1 51 ++ event 10 0 5 0 0 ++ event 11 3 0x300 0 0) K 20
+    (four 2 0 0 0 ++ four 6 5 0x24 0 ++ four 7 5 0x1A 0 ++ four 13 0 0 0 ++ four 14 0 0 0) 0 (since (securityIn (command 3 0x20) ∷ []))
+    -- "An empty batch changes nothing"
+    ∷ takes fresh [] [] 0 [] 0 fresh
+    ∷ takes fresh [] [] 7 [] 7 fresh
+    -- "a wrong field or page": in the first event, between and in the last, "before any event runs"
+    ∷ refuses fresh (wrongs ++ sendsK ++ writes) K 12 22
+    ∷ refuses fresh (sendsK ++ wrongs ++ writes) K 12 22
+    ∷ refuses fresh (sendsK ++ writes ++ wrongs) K 12 22
+    ∷ refuses fresh (sendsK ++ event 3 3 2 0 0) K 8 22
+    ∷ refuses fresh (sendsK ++ event 5 1 0 0 0) K 8 22
+    ∷ refuses fresh (event 2 3 0x10 0 53) K 4 22
+    ∷ refuses fresh (event 2 3 0x10 1 52) K 4 22
+    ∷ refuses fresh sendsK (take 51 K) 4 22
+    ∷ refuses unformed (sendsK ++ wrongs) K 8 22
+    -- "or a part event left over"
+    ∷ refuses fresh (sendsK ++ take 1 writes) K 4 22
+    ∷ refuses fresh (sendsK ++ take 7 writes) K 8 22
+    ∷ refuses fresh (take 1 powers) [] 0 22
+    ∷ refuses fresh (take 7 powers) [] 4 22
+    ∷ refuses fresh (times 64 powers ++ take 1 powers) [] 256 22
+    -- "18 comes first"
+    ∷ refuses fresh (sendsK ++ wrongs) K 7 18
+    ∷ refuses fresh (sendsK ++ take 7 writes) K 3 18
+    ∷ refuses fresh (times 64 powers ++ wrongs) [] 4096 18
+    ∷ refuses fresh (times 65 powers ++ take 1 powers) [] 4096 18
+    ∷ []
+
+pub worked : T (batched (formed-table ++ unformed-table ++ mended-table ++ rules-table))
+unfolding batched formed-table unformed-table mended-table rules-table joined parts formOf entryOf sound call eventOf askedOf answersFrom sameRecord runFrom checks answer effectBy actionsOf changedBy carriedOut changes flagged cleared act acts releases ownPlace room pageActions senderAfter supplemented taken setGood nexusGood ownerIsLocal wellFormed ownedPlace selected powerOn publicPage supplementalPage setPage checked openRules modeRules plainRules keyRules setRules matchRules endRules supplementalRules listOf descriptorRules listed underMode
+worked = tt

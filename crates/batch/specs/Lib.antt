@@ -1,0 +1,3 @@
+pub mod Batches
+pub mod Due
+pub mod Claims
