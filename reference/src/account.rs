@@ -1,6 +1,7 @@
 //! The account a call gives of itself: which rules of 01 and 02 were at work, for the comparison's counts and
 //! its reports. It never decides an answer.
 
+use crate::recording::BrokenByBatch;
 use crate::set_page::Broken;
 use crate::status_page::StatusRule;
 use crate::well_formed::Clause;
@@ -205,12 +206,13 @@ impl fmt::Display for ReadCell {
     }
 }
 
-/// The account of one call.
+/// The account of one call. A batch's has nothing of its events' calls.
 #[derive(Clone, Default, PartialEq, Eq, Debug)]
 pub struct Account {
     pub clauses: Vec<Clause>,
     pub page_rules: Vec<Broken>,
     pub status_rules: Vec<StatusRule>,
+    pub batch_rules: Vec<BrokenByBatch>,
     pub steps: Vec<Step>,
     pub read_cell: Option<ReadCell>,
 }

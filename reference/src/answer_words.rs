@@ -2,7 +2,8 @@
 
 use crate::answer::{Sense, NO_SENSE};
 
-/// What an answer means: 01's column "When", with a word more where a reader hasn't 01 at hand; the like for 14 to 17.
+/// What an answer means: 01's column "When", with a word more where a reader hasn't 01 at hand; the like for 14 to 17,
+/// and for what a batch is refused with.
 pub fn when(number: u8) -> &'static str {
     match number {
         0 => "done",
@@ -23,6 +24,8 @@ pub fn when(number: u8) -> &'static str {
         15 => "block can't be decrypted",
         16 => "plain block while decrypting",
         17 => "no key opened the block",
+        18 => "more than 64 events, or a buffer too short for their answers",
+        22 => "events with a wrong field or page, or a part event",
         255 => "unknown kind of command",
         _ => "not an answer of 01 or 02",
     }

@@ -1,6 +1,6 @@
-//! A second, independent account of document 01, and of requests 1 to 3 and 11 of document 02: the encryption
-//! controller of a tape drive, the replay of recorded sessions and their claim, and the programs that compare them with
-//! others on a pipe. Host tools beside it: recordings as text, and the page of a claim.
+//! A second, independent account of document 01, and of requests 1 to 3, 5 and 11 of document 02: the encryption
+//! controller of a tape drive, batches of events, the replay of recorded sessions and their claim, and the programs that
+//! compare them with others on a pipe. Host tools beside it: recordings as text, and the page of a claim.
 
 #![forbid(unsafe_code)]
 

@@ -4,7 +4,9 @@ use crate::account::Account;
 use crate::answer::{Refused, Sense, NO_SENSE};
 use crate::calls::{ReadAs, ReadBlock, Written, WrittenAs};
 use crate::controller::Controller;
+use crate::record::Record;
 use crate::record_bytes;
+use crate::recording::Batch;
 use crate::status_page::{self, Status};
 use std::io::{self, Read, Write};
 
@@ -22,6 +24,7 @@ pub mod kind {
     pub const MICROCODE: u8 = 9;
     pub const VENDOR_RELEASE: u8 = 10;
     pub const READ: u8 = 11;
+    pub const BATCH: u8 = 12;
     pub const READ_STATUS: u8 = 253;
     pub const LOAD_RECORD: u8 = 254;
     pub const GIVE_RECORD: u8 = 255;
@@ -31,7 +34,7 @@ pub mod kind {
 pub const UNKNOWN_KIND: u8 = 255;
 /// "the lent buffer whole, which the console fills with A5h before the call".
 pub const LENT_FILL: u8 = 0xA5;
-/// "L the size of the lent buffer (at most 4,096)".
+/// "L the size of the lent buffer (at most 4,096)"; for a batch "argument = size of the lent buffer, at most 4,096".
 pub const LENT_LIMIT: usize = 4096;
 /// "Command: 8 bytes".
 pub const COMMAND_BYTES: usize = 8;
@@ -39,7 +42,7 @@ pub const COMMAND_BYTES: usize = 8;
 pub const REPLY_BYTES: usize = 6;
 
 /// "Command: 8 bytes: kind, nexus, argument (2), protocol, port ..., length L (2); then L data bytes for kinds
-/// 2, 253 and 254."
+/// 2, 12, 253 and 254."
 #[derive(Clone, PartialEq, Eq, Debug)]
 pub struct Command {
     pub kind: u8,
@@ -52,9 +55,17 @@ pub struct Command {
 }
 
 impl Command {
-    /// Whether L data bytes follow the eight.
+    /// Whether L data bytes follow the eight; "kinds with data are 2, 12, 253 and 254".
     pub fn has_data(kind: u8) -> bool {
-        matches!(kind, kind::OUT | kind::READ_STATUS | kind::LOAD_RECORD)
+        matches!(kind, kind::OUT | kind::BATCH | kind::READ_STATUS | kind::LOAD_RECORD)
+    }
+
+    /// A batch's data: "2 bytes E (big-endian), then E bytes of events, the rest page bytes"; nothing "where E runs past
+    /// the data (fewer than 2 bytes of data included)".
+    pub fn batch(&self) -> Option<Batch<'_>> {
+        let (length, rest) = self.data.split_first_chunk()?;
+        let (events, page_bytes) = rest.split_at_checked(usize::from(u16::from_be_bytes(*length)))?;
+        Some(Batch { events, page_bytes })
     }
 
     /// The command's bytes.
@@ -110,8 +121,8 @@ pub struct Reply {
 }
 
 impl Reply {
-    /// "An unknown kind is answered 255 with no sense": so are a lent buffer above the limit and a support flag
-    /// that is neither 0 nor 1.
+    /// "An unknown kind is answered 255 with no sense": so are a lent buffer above the limit, a support flag that is
+    /// neither 0 nor 1, and a batch whose events run past its data.
     fn unknown() -> Reply {
         Reply { number: UNKNOWN_KIND, sense: NO_SENSE, data: Vec::new() }
     }
@@ -159,6 +170,11 @@ impl Drive {
         Drive { controller: Controller::power_on() }
     }
 
+    /// A drive over a record, which need not be well formed.
+    pub fn with(record: Record) -> Drive {
+        Drive { controller: Controller::with(record) }
+    }
+
     /// The controller behind the stream.
     pub fn controller(&self) -> &Controller {
         &self.controller
@@ -202,6 +218,7 @@ impl Drive {
                 let [block_kind, key] = command.argument.to_be_bytes();
                 controller.read(command.nexus, block_kind, key).map_or_else(Reply::refused, read_block)
             }
+            kind::BATCH => self.batch(command),
             kind::READ_STATUS => self.read_status(&command.data),
             kind::LOAD_RECORD => self.load_record(&command.data),
             kind::GIVE_RECORD => Reply::done(record_bytes::give(&controller.record)),
@@ -221,6 +238,17 @@ impl Drive {
         reply.data.extend(length.to_be_bytes());
         reply.data.extend(lent);
         reply
+    }
+
+    /// "number 0, 18 or 22, no sense, M = the size of the lent buffer, and the data are the lent buffer whole .., also
+    /// where refused"; "Unknown .. where E runs past the data .. or the buffer is above 4,096".
+    fn batch(&mut self, command: &Command) -> Reply {
+        let size = usize::from(command.argument);
+        let Some(batch) = command.batch().filter(|_| size <= LENT_LIMIT) else { return Reply::unknown() };
+        let mut lent = vec![LENT_FILL; size];
+        let outcome = batch.call(self, &mut lent);
+        self.controller.account = Account { batch_rules: outcome.broken, ..Account::default() };
+        Reply { number: outcome.verdict.number(), sense: NO_SENSE, data: lent }
     }
 
     /// "253 reads a status page with the status reader."

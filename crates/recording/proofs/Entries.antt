@@ -71,7 +71,7 @@ module _ (pageCount : ℕ) where
   run-none bytes h = ap (soundRun pageCount) (entries-none bytes h)
 
   -- the run reaches the end exactly if all are sound
-  pub run-all : (l : List Entry) → eqb (soundRun pageCount l) (length l) ≡ allSound pageCount l
+  run-all : (l : List Entry) → eqb (soundRun pageCount l) (length l) ≡ allSound pageCount l
   unfolding soundRun
   run-all [] = refl
   run-all (e ∷ l) =
@@ -80,6 +80,10 @@ module _ (pageCount : ℕ) where
       ap (λ (n : ℕ). eqb n (suc (length l))) (run-sound e l t)
       ∙ eqb·suc-suc (soundRun pageCount l) (length l) ∙ run-all l ∙ sym (all-cons (sound pageCount) e l ∙ simp t))
       (λ f. ap (λ (n : ℕ). eqb n (suc (length l))) (run-stops e l f) ∙ eqb·zero-suc (length l) ∙ sym (all-cons (sound pageCount) e l ∙ simp f))
+
+  -- so it is told by how many are, of so many bytes
+  pub run-told : (bytes : List ℕ) → eqb (soundRun pageCount (entries bytes)) (length bytes / 8) ≡ allSound pageCount (entries bytes)
+  run-told bytes = ap (λ (n : ℕ). eqb (soundRun pageCount (entries bytes)) n) (sym (length-entries bytes)) ∙ run-all (entries bytes)
 
 -- ---- the first events
 

@@ -1,7 +1,7 @@
 -- Laws of a recorded file.
 -- Assumes nothing.
 use Prim.Native.Nat.{ℕ, _+_, _*_, _-_, _/_}
-use mathlib.Core.Path.{_≡_, sym, ap, _∙_}
+use mathlib.Core.Path.{_≡_, sym, _∙_}
 use mathlib.Core.Bool.{true}
 use mathlib.Core.List.{List, [], _∷_}
 use native.Mathlib.Omega.{arith}
@@ -13,7 +13,7 @@ use Rattle.arrays.proofs.Base.{each-holds, and-left, and-right}
 use Rattle.recording.specs.Entries.{entries, allSound, soundRun}
 use Rattle.recording.specs.Files.{header, headed, eventBytes, pageBytes, soundFile}
 use Rattle.recording.specs.Soundness.{Headed}
-use Rattle.recording.proofs.Entries.{length-entries, run-all}
+use Rattle.recording.proofs.Entries.{run-told}
 
 module _ (file : List ℕ) where
   -- what a header with right numbers tells
@@ -33,10 +33,7 @@ module _ (file : List ℕ) where
   -- whether all events are sound is told by how many are
   pub sound-told : headed file ≡ true → eqb (soundRun (length (pageBytes file)) (entries (eventBytes file))) (length (eventBytes file) / 8) ≡ soundFile file
   unfolding soundFile
-  sound-told h =
-      let l = entries (eventBytes file) in
-      let pageCount = length (pageBytes file) in
-      ap (λ (n : ℕ). eqb (soundRun pageCount l) n) (sym (length-entries (eventBytes file))) ∙ run-all pageCount l ∙ sym (simp h)
+  sound-told h = run-told (length (pageBytes file)) (eventBytes file) ∙ sym (simp h)
 
   -- what a sound file's header tells, and that its events are sound
   pub sound-header : soundFile file ≡ true → Headed file

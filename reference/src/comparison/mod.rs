@@ -1,5 +1,7 @@
 //! The comparison of the library with another drive on a pipe: replies and, after every call, the record.
 
+mod batch_builder;
+mod batch_cases;
 mod ceem_cases;
 pub mod claims;
 mod difference;

@@ -1,5 +1,6 @@
 //! What the sessions came to, counted: a run that never came to something on the list fails.
 
+use super::batch_cases::BatchCase;
 use super::ceem_cases::CeemCase;
 use super::report::kind_name;
 use crate::account::{Account, ReadCell, Rule};
@@ -46,6 +47,7 @@ pub enum Item {
     ReadKind(u8),
     ReadKey(u8),
     Ceem(CeemCase),
+    Batch(BatchCase),
 }
 
 impl Item {
@@ -72,16 +74,20 @@ impl Item {
             Item::ReadKind(_) => "block kinds of reads",
             Item::ReadKey(_) => "keys of reads",
             Item::Ceem(case) => case.group(),
+            Item::Batch(case) => case.group(),
         }
     }
 
     /// Whether it is one of all the lengths, sizes or values of a field, or a cell of a table. They are the directed
     /// sessions' task, and they are told by how many were reached.
     fn is_one_of_all_values(self) -> bool {
-        matches!(
-            self,
-            Item::SetPageLength(_) | Item::StatusPageLength(_) | Item::LentSize(_) | Item::SetPageByte(..)
-        ) || matches!(self, Item::ReadCell(_) | Item::ReadKind(_) | Item::ReadKey(_) | Item::Ceem(_))
+        match self {
+            Item::SetPageLength(_) | Item::StatusPageLength(_) | Item::LentSize(_) => true,
+            Item::SetPageByte(..) | Item::ReadCell(_) | Item::ReadKind(_) | Item::ReadKey(_) => true,
+            Item::Ceem(_) => true,
+            Item::Batch(case) => case.is_one_of_all_values(),
+            _ => false,
+        }
     }
 }
 
@@ -109,12 +115,13 @@ impl fmt::Display for Item {
             Item::ReadCell(cell) => write!(formatter, "{cell}"),
             Item::ReadKind(number) | Item::ReadKey(number) => write!(formatter, "{number}"),
             Item::Ceem(case) => write!(formatter, "{case}"),
+            Item::Batch(case) => write!(formatter, "{case}"),
         }
     }
 }
 
-/// The answers each kind of call can give, by 01, 02 and design.md. 12 stands for the unknown kinds.
-const KIND_ANSWERS: [(u8, &[u8]); 15] = [
+/// The answers each kind of call can give, by 01, 02 and design.md. 13 stands for the unknown kinds.
+pub const KIND_ANSWERS: [(u8, &[u8]); 16] = [
     (kind::POWER_ON, &[0]),
     (kind::IN, &[0, 1, 2, 3, 4, 5, 6]),
     (kind::OUT, &[0, 1, 2, 3, 4, 5, 6, 7, 8, 9, 10]),
@@ -127,11 +134,12 @@ const KIND_ANSWERS: [(u8, &[u8]); 15] = [
     (kind::MICROCODE, &[0, 1]),
     (kind::VENDOR_RELEASE, &[0, 1, 13]),
     (kind::READ, &[0, 1, 2, 3, 4, 14, 15, 16, 17]),
+    (kind::BATCH, &[0, 18, 22, 255]),
     (kind::READ_STATUS, &[0, 7, 8]),
     (kind::LOAD_RECORD, &[0, 1]),
     (UNKNOWN, &[255]),
 ];
-const UNKNOWN: u8 = 12;
+const UNKNOWN: u8 = 13;
 
 /// Every cell of the table of reads: the modes, which tell whether the set holds a main key, the count of
 /// supplemental keys, the block kind and the key.
@@ -189,6 +197,9 @@ impl Reached {
         }
         for case in CeemCase::of(command, before, reply, account) {
             self.add(Item::Ceem(case));
+        }
+        for case in BatchCase::of(command, before, reply, account) {
+            self.add(Item::Batch(case));
         }
         self.count_account(account);
     }
@@ -267,8 +278,7 @@ impl Reached {
 
     /// Everything a run has to come to.
     pub fn wanted() -> Vec<Item> {
-        let mut wanted: Vec<Item> = (0..=17).map(Item::Answer).collect();
-        wanted.push(Item::Answer(255));
+        let mut wanted: Vec<Item> = (0..=17).chain([18, 22, 255]).map(Item::Answer).collect();
         for (kind, answers) in KIND_ANSWERS {
             wanted.extend(answers.iter().map(|&number| Item::KindAnswer(kind, number)));
         }
@@ -299,6 +309,7 @@ impl Reached {
         wanted.extend((0..=255).map(Item::ReadKind));
         wanted.extend((0..=255).map(Item::ReadKey));
         wanted.extend(CeemCase::every().into_iter().map(Item::Ceem));
+        wanted.extend(BatchCase::every().into_iter().map(Item::Batch));
         wanted.sort();
         wanted
     }

@@ -13,6 +13,7 @@ use std::fmt::Write;
 /// The name of a kind of command.
 pub fn kind_name(kind: u8) -> &'static str {
     match kind {
+        kind::BATCH => "batch",
         kind::READ_STATUS => "status reader (253)",
         kind::LOAD_RECORD => "load record (254)",
         kind::GIVE_RECORD => "give record (255)",

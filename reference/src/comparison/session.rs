@@ -75,6 +75,11 @@ pub fn load_bytes(bytes: Vec<u8>) -> Command {
     with_data(kind::LOAD_RECORD, bytes)
 }
 
+/// A batch with these data and a lent buffer of a size.
+pub fn batch(data: Vec<u8>, room: u16) -> Command {
+    Command { argument: room, ..with_data(kind::BATCH, data) }
+}
+
 /// A command with data.
 fn with_data(kind: u8, data: Vec<u8>) -> Command {
     Command { length: data.len() as u16, data, ..event(kind) }

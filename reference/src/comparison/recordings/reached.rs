@@ -15,7 +15,7 @@ const MANY_DRAWS: u32 = 4096;
 
 /// A shape of a sound recording.
 #[derive(Clone, Copy, PartialEq, Eq, PartialOrd, Ord, Debug)]
-enum Shape {
+pub enum Shape {
     RequestsFile,
     NoEvents,
     NoEventsButPageBytes,
@@ -48,8 +48,21 @@ impl Shape {
         Shape::ManyDraws,
     ];
 
+    /// The shapes that a batch can have too.
+    pub const OF_BATCHES: [Shape; 9] = [
+        Shape::NoEvents,
+        Shape::NoEventsButPageBytes,
+        Shape::PageOfNoBytes,
+        Shape::PageOfNoBytesAtTheEnd,
+        Shape::PageToTheEnd,
+        Shape::OverlappingPages,
+        Shape::EqualPages,
+        Shape::UnusedPageBytes,
+        Shape::PowerOnInTheMiddle,
+    ];
+
     /// Whether a recording with this record at the end has the shape.
-    fn is_of(self, recording: &Recording, end_record: &Record) -> bool {
+    pub fn is_of(self, recording: &Recording, end_record: &Record) -> bool {
         let Recording { events, page_bytes } = recording;
         let pages = pages(events);
         let end = page_bytes.len();
@@ -224,10 +237,10 @@ fn calls_wanted() -> Vec<Item> {
 }
 
 /// Whether a replay can come to it. From power-on a record is always well formed (answer 1), the protocol is 20h (5),
-/// the lent buffer has no bytes, 4,294,967,296 draws don't fit a recording, and two places have the same number only
+/// a batch is no event (18, 22), the lent buffer has no bytes, 4,294,967,296 draws don't fit a recording, and two places have the same number only
 /// after the wrap. The tables of values are the drive's comparison's task.
 fn can_be_replayed(item: &Item) -> bool {
-    let answers = |number: &u8| !matches!(number, 1 | 5 | 255);
+    let answers = |number: &u8| !matches!(number, 1 | 5 | 18 | 22 | 255);
     match item {
         Item::Answer(number) => answers(number),
         Item::KindAnswer(kind, number) => *kind <= kind::READ && answers(number),
@@ -241,7 +254,8 @@ fn can_be_replayed(item: &Item) -> bool {
         ),
         Item::ClauseBroken(_) | Item::ClauseBrokenAlone(_) => false,
         Item::StatusRuleBroken(_) | Item::StatusRuleBrokenAlone(_) | Item::StatusPageLength(_) => false,
-        Item::LentSize(_) | Item::SetPageByte(..) | Item::ReadCell(_) | Item::Ceem(_) => false,
+        Item::LentSize(_) | Item::SetPageByte(..) | Item::ReadCell(_) => false,
+        Item::Ceem(_) | Item::Batch(_) => false,
         _ => true,
     }
 }

@@ -5,7 +5,8 @@ use super::outcome::{Outcome, Wanted};
 use super::replayer::{Difference, Way};
 use super::shrink::Short;
 use crate::answer_words::when;
-use crate::comparison::report::{fields, kind_name, rows};
+use crate::comparison::report::{fields, rows};
+use crate::names::{name_of, CALLS};
 use crate::record_bytes::RECORD_BYTES;
 use crate::recording::{broken_rules, fields_of, parts, replay, Event, Header, ANSWER_BYTES};
 use crate::stream::kind;
@@ -69,9 +70,9 @@ fn file_text(file: &[u8]) -> String {
 }
 
 /// An event in words.
-fn event_text(event: &Event) -> String {
+pub fn event_text(event: &Event) -> String {
     let Event { nexus, argument, page_offset, page_length, .. } = event;
-    let mut text = format!("kind {} ({})", event.kind, kind_name(event.kind));
+    let mut text = format!("kind {} ({})", event.kind, name_of(&CALLS, event.kind).unwrap_or("no event"));
     let fields = fields_of(event.kind);
     if *nexus != 0 || fields.is_some_and(|fields| fields.nexus) {
         let _ = write!(text, ", nexus {nexus}");
