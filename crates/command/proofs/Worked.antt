@@ -2,7 +2,7 @@
 use Prim.Native.Nat.{ℕ}
 use mathlib.Core.List.{List, [], _∷_, _++_}
 use lib.Dec.{T}
-use lib.ListN.{take, replicate}
+use lib.ListN.{take, drop, replicate}
 use Rattle.kad.specs.Reading.{descriptorRules, listed}
 use Rattle.kad.specs.Writing.{descriptors}
 use Rattle.page.specs.Fields.{listOf}
@@ -24,13 +24,19 @@ use Rattle.drive.specs.Effects.{effectBy}
 use Rattle.drive.specs.After.{actionsOf, changedBy, carriedOut}
 use Rattle.drive.specs.Outcomes.{responsePage}
 use Rattle.drive.specs.Claims.{page, pageK, locked, keyless}
+use Rattle.wire.specs.Numbers.{two}
 use Rattle.wire.specs.Parts.{joined, parts}
 use Rattle.record.specs.Bytes.{kadsBytes, setBytes, nexusBytes, recordBytes}
 use Rattle.record.specs.Reading.{kadsRead, fieldsRead, setRead, nexusRead, recordRead}
 use Rattle.record.specs.Good.{goodBytes}
-use Rattle.calls.specs.Asking.{eventOf}
-use Rattle.command.specs.Requests.{toolOrder, orderOf}
-use Rattle.command.specs.Replies.{inReply, writeReply, readReply, statusReply, takeReply, giveReply, obeyed}
+use Rattle.calls.specs.Asking.{eventOf, askedOf}
+use Rattle.drive.specs.Runs.{runFrom}
+use Rattle.recording.specs.Forms.{formOf}
+use Rattle.recording.specs.Entries.{entryOf, sound, call}
+use Rattle.recording.specs.Claims.{event}
+use Rattle.session.specs.Answers.{answersFrom}
+use Rattle.command.specs.Requests.{callOrder, toolOrder, orderOf}
+use Rattle.command.specs.Replies.{inReply, writeReply, readReply, statusReply, takeReply, giveReply, askedReply, batchReply, obeyed}
 use Rattle.command.specs.Claims.{Exchange, exchange, converse}
 
 -- a reply without data: number, sense
@@ -55,6 +61,18 @@ record18 =
     ++ replicate 663 0x00
     ++ replicate 39 0x00
     ++ 0x00 ∷ 0x01 ∷ 0x00 ∷ 0x00 ∷ 0x00 ∷ 0x01 ∷ 0x00 ∷ 0x00 ∷ 0x00 ∷ 0x01 ∷ 0x01 ∷ 0x00 ∷ 0x00 ∷ replicate 156 0x00))
+
+-- a batch's data: the count of event bytes, the events, the page bytes
+abbrev batch : ℕ → List ℕ → List ℕ → List ℕ
+batch count events pages = two count ++ events ++ pages
+
+-- a reply to a batch: its number, and the lent buffer of so many bytes
+abbrev told : ℕ → ℕ → List ℕ → List ℕ
+told number size lent = number ∷ 0x00 ∷ 0x00 ∷ 0x00 ∷ (two size ++ lent)
+
+-- nexus 3 writes on a volume that supports it, and asks for its status
+abbrev written : List ℕ
+written = event 3 3 1 0 0 ++ event 1 3 0x20 0 0
 
 unfoldable pub session : List Exchange
 session =
@@ -83,7 +101,12 @@ session =
     -- a refused IN, whose buffer stays; a buffer too large; no such kind
     ∷ exchange (0x01 ∷ 0x10 ∷ 0x00 ∷ 0x20 ∷ 0x20 ∷ 0x00 ∷ 0x00 ∷ 0x04 ∷ []) [] (0x02 ∷ 0x00 ∷ 0x00 ∷ 0x00 ∷ 0x00 ∷ 0x06 ∷ 0x00 ∷ 0x00 ∷ replicate 4 0xA5)
     ∷ exchange (0x01 ∷ 0x00 ∷ 0x00 ∷ 0x20 ∷ 0x20 ∷ 0x00 ∷ 0x10 ∷ 0x01 ∷ []) [] unknown
-    ∷ exchange (0x0C ∷ 0x00 ∷ 0x00 ∷ 0x00 ∷ 0x00 ∷ 0x00 ∷ 0x00 ∷ 0x03 ∷ []) [] unknown
+    ∷ exchange (0x0D ∷ 0x00 ∷ 0x00 ∷ 0x00 ∷ 0x00 ∷ 0x00 ∷ 0x00 ∷ 0x03 ∷ []) [] unknown
+    -- a batch: its answers and a byte beyond; a buffer too short; a wrong event; one that says more events than it has
+    ∷ exchange (0x0C ∷ 0x00 ∷ 0x00 ∷ 0x09 ∷ 0x00 ∷ 0x00 ∷ 0x00 ∷ 0x12 ∷ []) (batch 16 written []) (told 0x00 9 (0x0B ∷ 0x07 ∷ 0x2A ∷ 0x13 ∷ 0x00 ∷ 0x00 ∷ 0x00 ∷ 0x00 ∷ 0xA5 ∷ []))
+    ∷ exchange (0x0C ∷ 0x00 ∷ 0x00 ∷ 0x07 ∷ 0x00 ∷ 0x00 ∷ 0x00 ∷ 0x12 ∷ []) (batch 16 written []) (told 0x12 7 (replicate 7 0xA5))
+    ∷ exchange (0x0C ∷ 0x00 ∷ 0x00 ∷ 0x08 ∷ 0x00 ∷ 0x00 ∷ 0x00 ∷ 0x12 ∷ []) (batch 16 (event 9 0 0 0 0 ++ event 12 0 0 0 0) []) (told 0x16 8 (replicate 8 0xA5))
+    ∷ exchange (0x0C ∷ 0x00 ∷ 0x00 ∷ 0x08 ∷ 0x00 ∷ 0x00 ∷ 0x00 ∷ 0x12 ∷ []) (batch 17 written []) unknown
     -- vendor release of a place above; no record; the record
     ∷ exchange (0x0A ∷ 0x00 ∷ 0x00 ∷ 0x05 ∷ 0x00 ∷ 0x00 ∷ 0x00 ∷ 0x00 ∷ []) [] (plain 0x0D 0x00 0x00 0x00)
     ∷ exchange (0xFE ∷ 0x00 ∷ 0x00 ∷ 0x00 ∷ 0x00 ∷ 0x00 ∷ 0x00 ∷ 0x01 ∷ []) (0x02 ∷ []) (plain 0x01 0x00 0x00 0x00)
@@ -91,7 +114,7 @@ session =
     ∷ []
 
 pub session-proved : T (converse (powerOn 16 5) session)
-unfolding session converse obeyed inReply writeReply readReply underMode statusReply takeReply giveReply eventOf toolOrder orderOf joined parts kadsBytes setBytes nexusBytes recordBytes kadsRead fieldsRead setRead nexusRead recordRead goodBytes readStatus scopeRules fieldRules headRules listRules answer checks effectBy actionsOf changedBy carriedOut changes flagged cleared responsePage act acts releases ownPlace room pageActions senderAfter supplemented taken statusBytes setGood nexusGood ownerIsLocal wellFormed ownedPlace selected powerOn publicPage supplementalPage setPage checked openRules modeRules plainRules keyRules setRules matchRules endRules supplementalRules listOf descriptorRules listed descriptors
+unfolding session converse obeyed askedReply batchReply formOf entryOf sound call answersFrom runFrom inReply writeReply readReply underMode statusReply takeReply giveReply eventOf askedOf callOrder toolOrder orderOf joined parts kadsBytes setBytes nexusBytes recordBytes kadsRead fieldsRead setRead nexusRead recordRead goodBytes readStatus scopeRules fieldRules headRules listRules answer checks effectBy actionsOf changedBy carriedOut changes flagged cleared responsePage act acts releases ownPlace room pageActions senderAfter supplemented taken statusBytes setGood nexusGood ownerIsLocal wellFormed ownedPlace selected powerOn publicPage supplementalPage setPage checked openRules modeRules plainRules keyRules setRules matchRules endRules supplementalRules listOf descriptorRules listed descriptors
 session-proved = tt
 
 -- every kind, and what the session doesn't show
@@ -137,8 +160,22 @@ further =
     ∷ exchange (0x01 ∷ 0x07 ∷ 0x00 ∷ 0x01 ∷ 0x20 ∷ 0x00 ∷ 0x10 ∷ 0x00 ∷ []) [] (0x00 ∷ 0x00 ∷ 0x00 ∷ 0x00 ∷ 0x10 ∷ 0x02 ∷ 0x00 ∷ 0x06 ∷ 0x00 ∷ 0x01 ∷ 0x00 ∷ 0x02 ∷ 0x00 ∷ 0x10 ∷ replicate 4090 0xA5)
     -- 256 is no flag; the kinds beside those that are known
     ∷ exchange (0x03 ∷ 0x07 ∷ 0x01 ∷ 0x00 ∷ 0x00 ∷ 0x00 ∷ 0x00 ∷ 0x00 ∷ []) [] unknown
-    ∷ exchange (0x0C ∷ 0x00 ∷ 0x00 ∷ 0x00 ∷ 0x00 ∷ 0x00 ∷ 0x00 ∷ 0x00 ∷ []) [] unknown
+    ∷ exchange (0x0D ∷ 0x00 ∷ 0x00 ∷ 0x00 ∷ 0x00 ∷ 0x00 ∷ 0x00 ∷ 0x00 ∷ []) [] unknown
     ∷ exchange (0xFC ∷ 0x00 ∷ 0x00 ∷ 0x00 ∷ 0x00 ∷ 0x00 ∷ 0x00 ∷ 0x00 ∷ []) [] unknown
+    -- batches: a page, its write, a demount; the other fields aren't read; from its page bytes, a byte short
+    ∷ exchange (0x0C ∷ 0xFF ∷ 0x00 ∷ 0x0C ∷ 0x21 ∷ 0x7F ∷ 0x00 ∷ 0x4E ∷ []) (batch 24 (event 2 9 0x10 0 52 ++ event 3 9 1 0 0 ++ event 5 0 0 0 0) (pageK locked)) (told 0x00 12 (replicate 12 0x00))
+    ∷ exchange (0x03 ∷ 0x09 ∷ 0x00 ∷ 0x01 ∷ 0x00 ∷ 0x00 ∷ 0x00 ∷ 0x00 ∷ []) [] (plain 0x04 0x06 0x2A 0x12)
+    ∷ exchange (0x0C ∷ 0x00 ∷ 0x00 ∷ 0x04 ∷ 0x00 ∷ 0x00 ∷ 0x00 ∷ 0x3D ∷ []) (batch 8 (event 2 9 0x10 0 52) (take 51 (pageK locked))) (told 0x16 4 (replicate 4 0xA5))
+    -- an empty one; no buffer, and the largest; a larger one; E past the data, by a byte and where there are no two bytes
+    ∷ exchange (0x0C ∷ 0x00 ∷ 0x00 ∷ 0x00 ∷ 0x00 ∷ 0x00 ∷ 0x00 ∷ 0x02 ∷ []) (batch 0 [] []) (told 0x00 0 [])
+    ∷ exchange (0x0C ∷ 0x00 ∷ 0x10 ∷ 0x00 ∷ 0x00 ∷ 0x00 ∷ 0x00 ∷ 0x03 ∷ []) (batch 0 [] (0xFF ∷ [])) (told 0x00 4096 (replicate 4096 0xA5))
+    ∷ exchange (0x0C ∷ 0x00 ∷ 0x10 ∷ 0x01 ∷ 0x00 ∷ 0x00 ∷ 0x00 ∷ 0x02 ∷ []) (batch 0 [] []) unknown
+    ∷ exchange (0x0C ∷ 0x00 ∷ 0x00 ∷ 0x04 ∷ 0x00 ∷ 0x00 ∷ 0x00 ∷ 0x09 ∷ []) (batch 8 (take 7 (event 9 0 0 0 0)) []) unknown
+    ∷ exchange (0x0C ∷ 0x00 ∷ 0x00 ∷ 0x04 ∷ 0x00 ∷ 0x00 ∷ 0x00 ∷ 0x01 ∷ []) (0x00 ∷ []) unknown
+    ∷ exchange (0x0C ∷ 0x00 ∷ 0x00 ∷ 0x04 ∷ 0x00 ∷ 0x00 ∷ 0x00 ∷ 0x00 ∷ []) [] unknown
+    -- a part event; more than 64 events
+    ∷ exchange (0x0C ∷ 0x00 ∷ 0x00 ∷ 0x04 ∷ 0x00 ∷ 0x00 ∷ 0x00 ∷ 0x0B ∷ []) (batch 9 (event 9 0 0 0 0 ++ 0x00 ∷ []) []) (told 0x16 4 (replicate 4 0xA5))
+    ∷ exchange (0x0C ∷ 0x00 ∷ 0x01 ∷ 0x04 ∷ 0x00 ∷ 0x00 ∷ 0x02 ∷ 0x0A ∷ []) (batch 520 (replicate 520 0x00) []) (told 0x12 260 (replicate 260 0xA5))
     -- reads: raw, under RAW without ENCRYPT, where no key is had; a kind above 2; no such nexus; other fields aren't read
     ∷ exchange (0x02 ∷ 0x08 ∷ 0x00 ∷ 0x10 ∷ 0x20 ∷ 0x00 ∷ 0x00 ∷ 0x14 ∷ []) (keyless 0x20 0x00 0x00 0x01) done
     ∷ exchange (0x0B ∷ 0x08 ∷ 0x02 ∷ 0xFF ∷ 0x21 ∷ 0x7F ∷ 0xFF ∷ 0xFF ∷ []) [] (0x00 ∷ 0x00 ∷ 0x00 ∷ 0x00 ∷ 0x00 ∷ 0x02 ∷ 0x01 ∷ 0x01 ∷ [])
@@ -154,7 +191,7 @@ further =
     ∷ []
 
 pub further-proved : T (converse (powerOn 16 5) further)
-unfolding further converse obeyed inReply writeReply readReply underMode statusReply takeReply giveReply eventOf toolOrder orderOf joined parts kadsBytes setBytes nexusBytes recordBytes kadsRead fieldsRead setRead nexusRead recordRead goodBytes readStatus scopeRules fieldRules headRules listRules answer checks effectBy actionsOf changedBy carriedOut changes flagged cleared responsePage act acts releases ownPlace room pageActions senderAfter supplemented taken statusBytes setGood nexusGood ownerIsLocal wellFormed ownedPlace selected powerOn publicPage supplementalPage setPage checked openRules modeRules plainRules keyRules setRules matchRules endRules supplementalRules listOf descriptorRules listed descriptors
+unfolding further converse obeyed askedReply batchReply formOf entryOf sound call answersFrom runFrom inReply writeReply readReply underMode statusReply takeReply giveReply eventOf askedOf callOrder toolOrder orderOf joined parts kadsBytes setBytes nexusBytes recordBytes kadsRead fieldsRead setRead nexusRead recordRead goodBytes readStatus scopeRules fieldRules headRules listRules answer checks effectBy actionsOf changedBy carriedOut changes flagged cleared responsePage act acts releases ownPlace room pageActions senderAfter supplemented taken statusBytes setGood nexusGood ownerIsLocal wellFormed ownedPlace selected powerOn publicPage supplementalPage setPage checked openRules modeRules plainRules keyRules setRules matchRules endRules supplementalRules listOf descriptorRules listed descriptors
 further-proved = tt
 
 -- on a drive of 2 nexuses and 2 places: the counter at 2, place 1 empty with number 2, nexus 1 locked
@@ -172,8 +209,13 @@ records =
     ∷ exchange (0xFE ∷ 0x00 ∷ 0x00 ∷ 0x00 ∷ 0x00 ∷ 0x00 ∷ 0x01 ∷ 0xD8 ∷ []) (take 471 record2 ++ 0x02 ∷ []) (plain 0x01 0x00 0x00 0x00)
     ∷ exchange (0xFF ∷ 0x00 ∷ 0x00 ∷ 0x00 ∷ 0x00 ∷ 0x00 ∷ 0x00 ∷ 0x00 ∷ []) [] (0x00 ∷ 0x00 ∷ 0x00 ∷ 0x00 ∷ 0x01 ∷ 0xD8 ∷ record2)
     ∷ exchange (0x03 ∷ 0x01 ∷ 0x00 ∷ 0x01 ∷ 0x00 ∷ 0x00 ∷ 0x00 ∷ 0x00 ∷ []) [] (plain 0x0B 0x07 0x2A 0x13)
+    -- a record that isn't well formed: a batch answers 1 until its power-on
+    ∷ exchange (0xFE ∷ 0x00 ∷ 0x00 ∷ 0x00 ∷ 0x00 ∷ 0x00 ∷ 0x01 ∷ 0xD8 ∷ []) (take 446 record2 ++ 0x01 ∷ drop 447 record2) done
+    ∷ exchange (0x0C ∷ 0x00 ∷ 0x00 ∷ 0x04 ∷ 0x00 ∷ 0x00 ∷ 0x00 ∷ 0x0A ∷ []) (batch 8 (event 3 1 1 0 0) []) (told 0x00 4 (0x01 ∷ 0x00 ∷ 0x00 ∷ 0x00 ∷ []))
+    ∷ exchange (0x0C ∷ 0x00 ∷ 0x00 ∷ 0x0C ∷ 0x00 ∷ 0x00 ∷ 0x00 ∷ 0x1A ∷ []) (batch 24 (event 3 1 1 0 0 ++ event 0 0 0 0 0 ++ event 3 1 1 0 0) []) (told 0x00 12 (0x01 ∷ replicate 11 0x00))
+    ∷ exchange (0x03 ∷ 0x01 ∷ 0x00 ∷ 0x01 ∷ 0x00 ∷ 0x00 ∷ 0x00 ∷ 0x00 ∷ []) [] (0x00 ∷ 0x00 ∷ 0x00 ∷ 0x00 ∷ 0x00 ∷ 0x03 ∷ 0x00 ∷ 0x00 ∷ 0x00 ∷ [])
     ∷ []
 
 pub records-proved : T (converse (powerOn 2 2) records)
-unfolding records converse obeyed inReply writeReply readReply underMode statusReply takeReply giveReply eventOf toolOrder orderOf joined parts kadsBytes setBytes nexusBytes recordBytes kadsRead fieldsRead setRead nexusRead recordRead goodBytes readStatus scopeRules fieldRules headRules listRules answer checks effectBy actionsOf changedBy carriedOut changes flagged cleared responsePage act acts releases ownPlace room pageActions senderAfter supplemented taken statusBytes setGood nexusGood ownerIsLocal wellFormed ownedPlace selected powerOn publicPage supplementalPage setPage checked openRules modeRules plainRules keyRules setRules matchRules endRules supplementalRules listOf descriptorRules listed descriptors
+unfolding records converse obeyed askedReply batchReply formOf entryOf sound call answersFrom runFrom inReply writeReply readReply underMode statusReply takeReply giveReply eventOf askedOf callOrder toolOrder orderOf joined parts kadsBytes setBytes nexusBytes recordBytes kadsRead fieldsRead setRead nexusRead recordRead goodBytes readStatus scopeRules fieldRules headRules listRules answer checks effectBy actionsOf changedBy carriedOut changes flagged cleared responsePage act acts releases ownPlace room pageActions senderAfter supplemented taken statusBytes setGood nexusGood ownerIsLocal wellFormed ownedPlace selected powerOn publicPage supplementalPage setPage checked openRules modeRules plainRules keyRules setRules matchRules endRules supplementalRules listOf descriptorRules listed descriptors
 records-proved = tt

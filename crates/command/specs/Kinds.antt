@@ -4,6 +4,9 @@ use mathlib.Core.Bool.{Bool, _||_}
 use lib.Dec.{eqb}
 use Rattle.calls.specs.Kinds.{outKind}
 
+abbrev pub batchKind : ℕ
+batchKind = 12
+
 abbrev pub readStatusKind : ℕ
 readStatusKind = 253
 
@@ -13,6 +16,6 @@ takeRecordKind = 254
 abbrev pub giveRecordKind : ℕ
 giveRecordKind = 255
 
--- "L bytes of data, for kinds 2, 253 and 254 alone"
+-- "L bytes of data, for kinds 2, 12, 253 and 254 alone"
 abbrev pub hasData : ℕ → Bool
-hasData kind = eqb kind outKind || eqb kind readStatusKind || eqb kind takeRecordKind
+hasData kind = eqb kind outKind || eqb kind batchKind || eqb kind readStatusKind || eqb kind takeRecordKind

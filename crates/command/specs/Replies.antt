@@ -22,10 +22,14 @@ use Rattle.drive.specs.Outcomes.{inLength, inBuffer, decision, decidedPlace, de
 use Rattle.record.specs.Bytes.{kadsBytes, recordBytes}
 use Rattle.record.specs.Reading.{recordRead}
 use Rattle.record.specs.Good.{goodBytes}
-use Rattle.command.specs.Requests.{orderOf}
+use Rattle.calls.specs.declared.Asked.{Asked}
+use Rattle.calls.specs.declared.Asked.the-variants.{PowerOn, In, Out, Write, Read, UnitReset, Happen}
+use Rattle.recording.specs.Verdicts.{verdictNumber}
+use Rattle.batch.specs.Batches.{batchVerdict, batchRecord, batchBuffer}
+use Rattle.command.specs.Requests.{orderOf, batchEvents, batchPages, holdsEvents}
 use Rattle.command.specs.declared.Request.{Request}
 use Rattle.command.specs.declared.Order.{Order}
-use Rattle.command.specs.declared.Order.the-variants.{Unknown, PowerOn, In, Out, Write, Read, UnitReset, Happen, ReadStatus, TakeRecord, GiveRecord}
+use Rattle.command.specs.declared.Order.the-variants.{Unknown, Ask, Batch, ReadStatus, TakeRecord, GiveRecord}
 
 -- "Reply: 6 bytes, then data"
 abbrev pub replyHeadSize : ℕ
@@ -116,16 +120,30 @@ takeReply s bytes =
 unfoldable pub giveReply : State → Replied
 giveReply s = answered Done (recordBytes s) s
 
--- what an order is answered, with the command's data and the buffer that is lent to IN, which has as many bytes as it says
+-- a call of the drive's, with the command's data and the buffer that is lent to IN
+unfoldable pub askedReply : State → Asked → (page lent : List ℕ) → Replied
+askedReply s PowerOn page lent = called s powerUp
+askedReply s (In command) page lent = inReply s command lent
+askedReply s (Out command) page lent = called s (securityOut command page)
+askedReply s (Write n supported) page lent = writeReply s n supported
+askedReply s (Read n block) page lent = readReply s n block
+askedReply s UnitReset page lent = called s unitReset
+askedReply s (Happen event) page lent = called s (happens event)
+
+-- a batch: its verdict's number, no sense, "the lent buffer whole"; "unknown where E runs past the data"
+unfoldable pub batchReply : State → (bytes lent : List ℕ) → Replied
+batchReply s bytes lent =
+    let events = batchEvents bytes in
+    let pages = batchPages bytes in
+    if holdsEvents bytes
+    then record { number = verdictNumber (batchVerdict events pages (length lent)); sense = senseOf Done; bytes = batchBuffer s events pages lent; state = batchRecord s events pages lent }
+    else unknownReply s
+
+-- what an order is answered, with the command's data and the buffer that is lent to it, which has as many bytes as it says
 unfoldable pub obeyed : State → Order → (page lent : List ℕ) → Replied
 obeyed s Unknown page lent = unknownReply s
-obeyed s PowerOn page lent = called s powerUp
-obeyed s (In command size) page lent = inReply s command lent
-obeyed s (Out command) page lent = called s (securityOut command page)
-obeyed s (Write n supported) page lent = writeReply s n supported
-obeyed s (Read n block) page lent = readReply s n block
-obeyed s UnitReset page lent = called s unitReset
-obeyed s (Happen event) page lent = called s (happens event)
+obeyed s (Ask asked size) page lent = askedReply s asked page lent
+obeyed s (Batch size) page lent = batchReply s page lent
 obeyed s ReadStatus page lent = statusReply s page
 obeyed s TakeRecord page lent = takeReply s page
 obeyed s GiveRecord page lent = giveReply s

@@ -1,17 +1,18 @@
 -- docs/CONSOLE.md, "Command: 8 bytes, then data": what the bytes tell, and what a command orders.
-use Prim.Native.Nat.{ℕ}
+use Prim.Native.Nat.{ℕ, _+_}
+use mathlib.Core.Bool.{Bool, not, _&&_, _||_}
 use mathlib.Core.List.{List}
 use lib.Dec.{leb, eqb}
+use lib.ListN.{length, take, drop}
 use Rattle.arrays.specs.Base.{if_then_else_}
 use Rattle.wire.specs.Numbers.{byteAt, wordAt}
-use Rattle.drive.specs.declared.Command.{Command}
-use Rattle.drive.specs.Restoring.{blockOf}
-use Rattle.calls.specs.Kinds.{powerOnKind, inKind, outKind, writeKind, unitResetKind, readKind, isEvent}
-use Rattle.calls.specs.Asking.{commandOf, flagMost, supports, eventOf}
-use Rattle.command.specs.Kinds.{readStatusKind, takeRecordKind, giveRecordKind}
+use Rattle.calls.specs.Kinds.{inKind, writeKind, isCall}
+use Rattle.calls.specs.Asking.{flagMost, askedOf}
+use Rattle.calls.specs.declared.Asked.{Asked}
+use Rattle.command.specs.Kinds.{batchKind, readStatusKind, takeRecordKind, giveRecordKind}
 use Rattle.command.specs.declared.Request.{Request}
 use Rattle.command.specs.declared.Order.{Order}
-use Rattle.command.specs.declared.Order.the-variants.{Unknown, PowerOn, In, Out, Write, Read, UnitReset, Happen, ReadStatus, TakeRecord, GiveRecord}
+use Rattle.command.specs.declared.Order.the-variants.{Unknown, Ask, Batch, ReadStatus, TakeRecord, GiveRecord}
 
 -- "0 kind; 1 nexus; 2–3 argument; 4 protocol; 5 port: not read; 6–7 length L"
 abbrev pub requestOf : List ℕ → Request
@@ -23,55 +24,60 @@ requestOf bytes = record {
   length = wordAt bytes 6;
 }
 
--- IN, OUT: "sender; page code; protocol"
-abbrev pub requestCommand : Request → Command
-requestCommand r = commandOf (r .nexus) (r .protocol) (r .argument)
+-- the call that a command of one of the drive's kinds asks for
+abbrev pub requestAsked : Request → Asked
+requestAsked r = askedOf (r .kind) (r .nexus) (r .argument) (r .protocol)
 
--- IN: "size of the lent buffer, at most 4,096"
+-- IN, batch: "size of the lent buffer, at most 4,096"
 abbrev pub lentMost : ℕ
 lentMost = 4096
 
-abbrev pub inOrder : Request → Order
-inOrder r = if leb (r .length) lentMost then In (requestCommand r) (r .length) else Unknown
+-- IN's is L; no other call has one
+abbrev pub lentTo : Request → ℕ
+lentTo r = if eqb (r .kind) inKind then r .length else 0
 
 -- write: "1 where the volume supports algorithm 1, else 0"; "a flag is never guessed"
-abbrev pub writeOrder : Request → Order
-writeOrder r = if leb (r .argument) flagMost then Write (r .nexus) (supports (r .argument)) else Unknown
+abbrev pub flagged : Request → Bool
+flagged r = not (eqb (r .kind) writeKind) || leb (r .argument) flagMost
 
--- read: "block kind × 256 + key", whatever they are: what is wrong with them is the call's to say
-abbrev pub readOrder : Request → Order
-readOrder r = Read (r .nexus) (blockOf (r .argument))
+-- "an IN with L above 4,096, a write with an argument above 1"
+unfoldable pub callOrder : Request → Order
+callOrder r = if leb (lentTo r) lentMost && flagged r then Ask (requestAsked r) (lentTo r) else Unknown
+
+-- batch: its buffer's size is the argument
+abbrev pub batchOrder : Request → Order
+batchOrder r = if leb (r .argument) lentMost then Batch (r .argument) else Unknown
 
 -- a kind that is no call of the drive's
-unfoldable pub toolOrder : (kind : ℕ) → Order
-toolOrder kind =
-    if eqb kind readStatusKind then ReadStatus
-    else if eqb kind takeRecordKind then TakeRecord
-    else if eqb kind giveRecordKind then GiveRecord
+unfoldable pub toolOrder : Request → Order
+toolOrder r =
+    if eqb (r .kind) batchKind then batchOrder r
+    else if eqb (r .kind) readStatusKind then ReadStatus
+    else if eqb (r .kind) takeRecordKind then TakeRecord
+    else if eqb (r .kind) giveRecordKind then GiveRecord
     else Unknown
 
--- "An unknown command is one of a kind not in the table (12 to 252), an IN with L above 4,096, or a write with an argument above 1."
+-- "An unknown command is one of a kind not in the table (13 to 252), .."
 unfoldable pub orderOf : Request → Order
-orderOf r =
-    if eqb (r .kind) powerOnKind then PowerOn
-    else if eqb (r .kind) inKind then inOrder r
-    else if eqb (r .kind) outKind then Out (requestCommand r)
-    else if eqb (r .kind) writeKind then writeOrder r
-    else if eqb (r .kind) unitResetKind then UnitReset
-    else if isEvent (r .kind) then Happen (eventOf (r .kind) (r .nexus) (r .argument))
-    else if eqb (r .kind) readKind then readOrder r
-    else toolOrder (r .kind)
+orderOf r = if isCall (r .kind) then callOrder r else toolOrder r
 
 -- the size of the buffer that is lent to it
 abbrev pub lentSize : Order → ℕ
 lentSize Unknown = 0
-lentSize PowerOn = 0
-lentSize (In command size) = size
-lentSize (Out command) = 0
-lentSize (Write n supported) = 0
-lentSize (Read n block) = 0
-lentSize UnitReset = 0
-lentSize (Happen event) = 0
+lentSize (Ask asked size) = size
+lentSize (Batch size) = size
 lentSize ReadStatus = 0
 lentSize TakeRecord = 0
 lentSize GiveRecord = 0
+
+-- ---- a batch's data: "2 bytes E, then E bytes of events, the rest page bytes"
+
+abbrev pub batchEvents : (bytes : List ℕ) → List ℕ
+batchEvents bytes = take (wordAt bytes 0) (drop 2 bytes)
+
+abbrev pub batchPages : (bytes : List ℕ) → List ℕ
+batchPages bytes = drop (2 + wordAt bytes 0) bytes
+
+-- not "where E runs past the data"
+abbrev pub holdsEvents : (bytes : List ℕ) → Bool
+holdsEvents bytes = leb (2 + wordAt bytes 0) (length bytes)

@@ -1,16 +1,16 @@
 // A command of docs/CONSOLE.md: what its 8 bytes tell, and what it orders.
-use drive::Block;
-use drive::Command;
-use places::Event;
+use calls::Asked;
 
 // The kinds that are no calls of the drive's; those of calls are in crate calls.
+pub const BATCH: u8 = 12;
+
 pub const READ_STATUS: u8 = 253;
 
 pub const TAKE_RECORD: u8 = 254;
 
 pub const GIVE_RECORD: u8 = 255;
 
-// The largest buffer that IN lends.
+// The largest buffer that IN or a batch lends.
 pub const LENT_MOST: u16 = 4096;
 
 // The number of the reply to an unknown command.
@@ -25,16 +25,11 @@ pub struct Request {
     pub length: u16,
 }
 
-// What a command orders. In holds the size of the lent buffer.
+// What a command orders. Ask holds a call of the drive's and the size of the buffer that is lent to IN, Batch that of its own.
 pub enum Order {
     Unknown,
-    PowerOn,
-    In(Command, u16),
-    Out(Command),
-    Write(u8, bool),
-    Read(u8, Block),
-    UnitReset,
-    Happen(Event),
+    Ask(Asked, u16),
+    Batch(u16),
     ReadStatus,
     TakeRecord,
     GiveRecord,

@@ -2,22 +2,23 @@
 use answer::Sense;
 use calls::IN;
 use calls::OUT;
-use calls::POWER_ON;
 use calls::READ;
-use calls::UNIT_RESET;
 use calls::WRITE;
+use command::BATCH;
 use command::GIVE_RECORD;
 use command::LENT_MOST;
 use command::Order;
 use command::READ_STATUS;
 use command::Request;
 use command::TAKE_RECORD;
-use drive::Command;
 use status::Status;
 ghost use mathlib.Core.Path.{_≡_};
 ghost use Rattle.command.specs.Kinds.{hasData};
-ghost use Rattle.command.specs.Requests.{requestOf, requestCommand, inOrder, writeOrder, toolOrder, orderOf};
+ghost use Rattle.command.specs.Requests.{requestOf, lentTo, callOrder, batchOrder, toolOrder, orderOf, batchEvents, batchPages, holdsEvents};
 ghost use Rattle.command.specs.Replies.{replyHead, valuesHead};
+
+// A batch's data begin with the count of its events' bytes.
+const COUNT_SIZE: usize = 2;
 
 // The 8 bytes of a command; byte 5, the port, isn't read.
 pub fn request_of(bytes: [u8; 8]) -> Request
@@ -36,40 +37,52 @@ pub fn request_of(bytes: [u8; 8]) -> Request
 pub fn has_data(kind: u8) -> bool
     ensures { λ r. ⌜ r ≡ hasData kind ⌝ }
 {
-    (kind == OUT) | (kind == READ_STATUS) | (kind == TAKE_RECORD)
+    (kind == OUT) | (kind == BATCH) | (kind == READ_STATUS) | (kind == TAKE_RECORD)
 }
 
-// What a security command says of itself.
-fn command_of(request: Request) -> Command
-    ensures { λ r. ⌜ r ≡ requestCommand request ⌝ }
+// The buffer that is lent to a call: only IN has one.
+fn lent_to(request: Request) -> u16
+    ensures { λ r. ⌜ r ≡ lentTo request ⌝ }
 {
-    calls_code::command_of(request.nexus, request.protocol, request.argument)
+    if request.kind == IN { request.length } else { 0 }
 }
 
-// IN, where its buffer isn't too large.
-fn in_order(request: Request) -> Order
-    ensures { λ r. ⌜ r ≡ inOrder request ⌝ }
+// A call of the drive's, where its buffer isn't too large and a write's argument is a flag.
+fn call_order(request: Request) -> Order
+    ensures { λ r. ⌜ r ≡ callOrder request ⌝ }
 {
-    if request.length <= LENT_MOST {
-        return Order::In(command_of(request), request.length);
+    let lent = lent_to(request);
+    let flagged = !(request.kind == WRITE) | (request.argument <= 1);
+    if (lent <= LENT_MOST) & flagged {
+        let asked = calls_code::asked_of(
+            request.kind,
+            request.nexus,
+            request.argument,
+            request.protocol,
+        );
+        return Order::Ask(asked, lent);
     }
     Order::Unknown
 }
 
-// A write, where its argument is a flag.
-fn write_order(request: Request) -> Order
-    ensures { λ r. ⌜ r ≡ writeOrder request ⌝ }
+// A batch, where its buffer isn't too large.
+fn batch_order(request: Request) -> Order
+    ensures { λ r. ⌜ r ≡ batchOrder request ⌝ }
 {
-    if request.argument <= 1 {
-        return Order::Write(request.nexus, request.argument == 1);
+    if request.argument <= LENT_MOST {
+        return Order::Batch(request.argument);
     }
     Order::Unknown
 }
 
 // A kind that is no call of the drive's.
-fn tool_order(kind: u8) -> Order
-    ensures { λ r. ⌜ r ≡ toolOrder kind ⌝ }
+fn tool_order(request: Request) -> Order
+    ensures { λ r. ⌜ r ≡ toolOrder request ⌝ }
 {
+    let kind = request.kind;
+    if kind == BATCH {
+        return batch_order(request);
+    }
     if kind == READ_STATUS {
         return Order::ReadStatus;
     }
@@ -86,29 +99,35 @@ fn tool_order(kind: u8) -> Order
 pub fn order_of(request: Request) -> Order
     ensures { λ r. ⌜ r ≡ orderOf request ⌝ }
 {
-    let kind = request.kind;
-    if kind == POWER_ON {
-        return Order::PowerOn;
+    if request.kind <= READ {
+        return call_order(request);
     }
-    if kind == IN {
-        return in_order(request);
-    }
-    if kind == OUT {
-        return Order::Out(command_of(request));
-    }
-    if kind == WRITE {
-        return write_order(request);
-    }
-    if kind == UNIT_RESET {
-        return Order::UnitReset;
-    }
-    if calls_code::is_event(kind) {
-        return Order::Happen(calls_code::event_of(kind, request.nexus, request.argument));
-    }
-    if kind == READ {
-        return Order::Read(request.nexus, drive_code::block_of(request.argument));
-    }
-    tool_order(kind)
+    tool_order(request)
+}
+
+// A batch's data hold the events that they say.
+pub fn holds_events(bytes: &[u8]) -> bool
+    ensures { λ r. ⌜ r ≡ holdsEvents (now (bytes .entry)) ⌝ }
+{
+    COUNT_SIZE + wire_code::word_at(bytes, 0) <= bytes.len()
+}
+
+// The events of a batch's data.
+pub fn batch_events(bytes: &[u8]) -> &[u8]
+    ensures { λ r. ⌜ now r ≡ batchEvents (now (bytes .entry)) ⌝ }
+{
+    wire_code::part(bytes, COUNT_SIZE, wire_code::word_at(bytes, 0))
+}
+
+// Its page bytes.
+pub fn batch_pages(bytes: &[u8]) -> &[u8]
+    ensures { λ r. ⌜ now r ≡ batchPages (now (bytes .entry)) ⌝ }
+{
+    wire_code::part(
+        bytes,
+        COUNT_SIZE + wire_code::word_at(bytes, 0),
+        bytes.len(),
+    )
 }
 
 // A reply's bytes before its data: number, sense, the count of data.

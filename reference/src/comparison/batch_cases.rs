@@ -141,25 +141,44 @@ pub enum BatchCase {
     Mended(Mended),
     Shape(Shape),
     /// 18 where 22 is due too: "18 comes first".
-    NoRoomFirst { no_room: BatchRule, wrong: BatchRule },
+    NoRoomFirst {
+        no_room: BatchRule,
+        wrong: BatchRule,
+    },
     /// A rule that one event alone breaks, by where it stands.
-    WrongAt { rule: FileRule, position: Position },
+    WrongAt {
+        rule: FileRule,
+        position: Position,
+    },
     /// So many bytes of a part event beside so many whole ones.
-    PartEvent { events: usize, bytes: usize },
+    PartEvent {
+        events: usize,
+        bytes: usize,
+    },
     /// A batch of so many events: taken, or refused for their count alone.
     Count(usize),
     /// The room for so many events' answers, less a byte, as it is, and a byte more.
-    Room { events: usize, beyond: i32 },
+    Room {
+        events: usize,
+        beyond: i32,
+    },
     /// An event that is run, by the batch's starting record.
-    KindFrom { kind: u8, start: Start },
+    KindFrom {
+        kind: u8,
+        start: Start,
+    },
     /// A clause for which an event of a batch is answered 1.
     ClauseBroken(Clause),
     DataLength(usize),
     LentSize(usize),
     /// Where the events end by E: a byte before the data's end, at it, and a byte past it.
-    EventsEnd { beyond: i32 },
+    EventsEnd {
+        beyond: i32,
+    },
     /// What a batch is answered that has something in the fields that are ignored.
-    IgnoredFields { number: u8 },
+    IgnoredFields {
+        number: u8,
+    },
 }
 
 impl BatchCase {
@@ -356,7 +375,9 @@ impl fmt::Display for BatchCase {
                 rule_text(*wrong, formatter)
             }
             BatchCase::WrongAt { rule, position } => write!(formatter, "{rule:?} {position:?}"),
-            BatchCase::PartEvent { events, bytes } => write!(formatter, "{bytes} bytes after {events} events"),
+            BatchCase::PartEvent { events, bytes } => {
+                write!(formatter, "{bytes} bytes after {events} events")
+            }
             BatchCase::Count(number) | BatchCase::DataLength(number) | BatchCase::LentSize(number) => {
                 write!(formatter, "{number}")
             }

@@ -53,6 +53,8 @@ struct Comparison<'settings> {
     reached: Reached,
     batch: Vec<Session>,
     calls_in_batch: usize,
+    /// The batches of events that the library answered as it answers their calls one by one.
+    equal_to_calls: usize,
     failure: Option<String>,
 }
 
@@ -73,10 +75,12 @@ pub fn run(settings: &Settings) -> bool {
         reached: Reached::default(),
         batch: Vec::new(),
         calls_in_batch: 0,
+        equal_to_calls: 0,
         failure: None,
     };
     let start = Instant::now();
     if settings.directed {
+        comparison.self_check();
         comparison.directed_sessions();
     }
     if settings.random {
@@ -100,6 +104,14 @@ fn directed_sessions() -> Receiver<Session> {
 }
 
 impl Comparison<'_> {
+    /// Asks the library to agree with itself.
+    fn self_check(&mut self) {
+        match directed::self_check() {
+            Ok(batches) => self.equal_to_calls = batches,
+            Err(text) => self.failure = Some(text),
+        }
+    }
+
     /// The directed sessions, up to a difference.
     fn directed_sessions(&mut self) {
         for session in directed_sessions() {
@@ -192,6 +204,9 @@ impl Comparison<'_> {
             return false;
         }
         print!("{}", self.reached.text());
+        if self.settings.directed {
+            println!("batches that are the reference's calls one by one: {}", self.equal_to_calls);
+        }
         let seconds = time.as_secs_f64();
         println!("{calls} calls in {seconds:.1} s, {:.0} calls a second", calls as f64 / seconds);
         let missing = self.reached.missing_text(self.settings.directed);

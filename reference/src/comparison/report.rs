@@ -1,14 +1,21 @@
 //! What is printed about a difference: the short session, both replies, the reference's account.
 
+use super::batch_builder::BatchParts;
 use super::difference::{Difference, What};
 use super::other_drive::Trouble;
+use super::recordings::report::event_text;
 use crate::account::Account;
 use crate::answer_words::{sense_codes, when};
 use crate::hex;
 use crate::names::{name_of, CALLS};
 use crate::record_bytes::{field_name, RECORD_BYTES};
+use crate::recording::ANSWER_BYTES;
 use crate::stream::{kind, Command, Drive, Reply};
 use std::fmt::Write;
+
+/// The most events and page bytes of a batch that are written out.
+const MOST_EVENTS: usize = 100;
+const MOST_PAGE_BYTES: usize = 4096;
 
 /// The name of a kind of command.
 pub fn kind_name(kind: u8) -> &'static str {
@@ -36,8 +43,8 @@ pub fn rows(bytes: &[u8]) -> String {
     text
 }
 
-/// A command in words.
-fn command_text(command: &Command) -> String {
+/// A command in words, with the reference's reply to it.
+fn command_text(command: &Command, reply: &Reply) -> String {
     let mut text = kind_name(command.kind).to_string();
     let _ = match command.kind {
         kind::IN => write!(
@@ -66,6 +73,7 @@ fn command_text(command: &Command) -> String {
         }
         kind::READ_STATUS => write!(text, ", {} bytes", command.data.len()),
         kind::LOAD_RECORD => return load_text(command),
+        kind::BATCH => return batch_text(command, reply),
         _ => {
             let mut header = Vec::new();
             command.give(&mut header);
@@ -74,6 +82,33 @@ fn command_text(command: &Command) -> String {
     };
     text.push('\n');
     text + &rows(&command.data)
+}
+
+/// A batch in words: its events, with the reference's answers where it is taken, and its page bytes.
+fn batch_text(command: &Command, reply: &Reply) -> String {
+    let mut text = format!("batch, lent buffer of {}", command.argument);
+    let Some(parts) = BatchParts::read(command) else {
+        let _ = writeln!(text, ", {} bytes, past which its events run", command.data.len());
+        return text + &rows(&command.data);
+    };
+    let (events, page_bytes) = (parts.events.len(), parts.page_bytes.len());
+    let _ = writeln!(text, ", {events} events, {page_bytes} page bytes");
+    let answers = if reply.number == 0 { &reply.data[..] } else { &[] };
+    let mut answers = answers.chunks_exact(ANSWER_BYTES);
+    for (number, event) in parts.events.iter().enumerate().take(MOST_EVENTS) {
+        let _ = write!(text, "      event {number}: {}", event_text(event));
+        if let Some(answer) = answers.next() {
+            let _ = write!(text, "; the reference answers {} ({})", answer[0], when(answer[0]));
+        }
+        text.push('\n');
+    }
+    if events > MOST_EVENTS {
+        let _ = writeln!(text, "      and {} events more", events - MOST_EVENTS);
+    }
+    if !parts.left_over.is_empty() {
+        let _ = writeln!(text, "      a part event: {:02X?}", parts.left_over);
+    }
+    text + &rows(&parts.page_bytes[..page_bytes.min(MOST_PAGE_BYTES)])
 }
 
 /// A loaded record in words: its fields that aren't zero.
@@ -150,6 +185,10 @@ pub fn account_text(account: &Account) -> String {
     for rule in &account.status_rules {
         let _ = writeln!(text, "    the status page breaks {rule:?}");
     }
+    for broken in &account.batch_rules {
+        let event = broken.position.map_or(String::new(), |position| format!(" (event {position})"));
+        let _ = writeln!(text, "    the batch breaks {:?}{event}", broken.rule);
+    }
     if let Some(cell) = &account.read_cell {
         let _ = writeln!(text, "    the read is decided over {cell}");
     }
@@ -168,7 +207,7 @@ pub fn difference_text(name: &str, commands: &[Command], difference: &Difference
     let mut drive = Drive::new();
     for (number, command) in commands.iter().enumerate() {
         let reply = drive.answer(command);
-        let _ = write!(text, "  {number}. {}", command_text(command));
+        let _ = write!(text, "  {number}. {}", command_text(command, &reply));
         if number != difference.command {
             let _ = writeln!(text, "      both answer {} ({})", reply.number, when(reply.number));
         }

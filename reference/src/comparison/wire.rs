@@ -1,6 +1,7 @@
 //! What the stream itself promises: the record a drive starts with, answers before the next command is read,
 //! commands in pieces, part commands, the end of input.
 
+use super::batch_builder::BatchParts;
 use super::difference::{bytes_of, compare};
 use super::other_drive::OtherDrive;
 use super::page_builder::SetPage;
@@ -29,9 +30,16 @@ fn some_commands() -> Vec<Command> {
         write(3, true),
         read_status(vec![0; 24]),
         load(&record_builder::mixed()),
-        event(12),
+        event(13),
+        batch_of_two(),
+        Command { argument: u16::MAX, ..batch_of_two() },
         security_in(0, 0x0012, 0),
     ]
+}
+
+/// A batch with a page: K and a write.
+fn batch_of_two() -> Command {
+    BatchParts::of(&[security_out(3, SetPage::k().bytes()), write(3, true)]).command()
 }
 
 /// Starts the other drive.
@@ -84,11 +92,12 @@ fn answers_one_by_one(settings: &Settings) -> Result<(), String> {
 /// A command's bytes may come one by one.
 fn takes_commands_in_pieces(settings: &Settings) -> Result<(), String> {
     let mut other = start(settings)?;
-    let commands = &some_commands()[..8];
-    for byte in bytes_of(commands) {
+    let commands: Vec<Command> =
+        some_commands().into_iter().filter(|command| command.kind != kind::LOAD_RECORD).collect();
+    for byte in bytes_of(&commands) {
         other.send(vec![byte]);
     }
-    compare_pieces(commands, &mut other)
+    compare_pieces(&commands, &mut other)
 }
 
 /// Compares the replies to commands sent in pieces.
@@ -139,6 +148,8 @@ fn part_commands() -> Vec<Vec<u8>> {
         (power_on(), &[1, 4, 7][..]),
         (read(3, 0, 255), &[1, 4, 7]),
         (security_out(3, SetPage::k().bytes()), &[8, 9, 59]),
+        (batch_of_two(), &[7, 8, 9, 10, 26, 77]),
+        (Command { argument: u16::MAX, ..batch_of_two() }, &[8, 77]),
         (read_status(vec![0; 24]), &[8, 31]),
         (load(&record_builder::mixed()), &[8, 1000, 1324]),
     ] {

@@ -17,13 +17,13 @@ pub fn sessions(sink: &mut Sink) {
     largest_data(sink);
 }
 
-/// Kinds 12 to 252 are unknown; so are a support flag above 1 and a lent buffer above the limit.
+/// Kinds 13 to 252 are unknown; so are a support flag above 1 and a lent buffer above the limit.
 fn unknown_kinds(sink: &mut Sink) {
     let mut stage = Stage::new("unknown kinds", mixed(), sink);
-    for kind in 12..=252 {
+    for kind in 13..=252 {
         stage.call(event_of(kind, 3));
     }
-    stage.call(Command { length: 40, ..event(12) });
+    stage.call(Command { length: 40, ..event(13) });
     for argument in [2, 3, 0x0100, 0xFFFF] {
         stage.call(Command { argument, ..write(3, true) });
     }

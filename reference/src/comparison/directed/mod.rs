@@ -1,5 +1,6 @@
 //! Directed sessions: each file holds the sessions of one idea.
 
+mod batches;
 mod buffers;
 mod byte_values;
 mod ceem;
@@ -17,6 +18,8 @@ mod restoring;
 mod status;
 mod writes;
 
+pub use batches::self_check;
+
 use super::session::Sink;
 
 /// P1 to P10 of 01.
@@ -28,6 +31,7 @@ pub fn examples(sink: &mut Sink) {
 pub fn sessions(sink: &mut Sink) {
     examples::sessions(sink);
     kinds::sessions(sink);
+    batches::sessions(sink);
     buffers::sessions(sink);
     writes::sessions(sink);
     reads::sessions(sink);

@@ -22,10 +22,10 @@ fn all_pending(mut record: Record) -> Record {
 }
 
 /// A change that breaks a clause of well-formedness.
-type Change = fn(&mut Record);
+pub type Change = fn(&mut Record);
 
-/// Each clause broken.
-const CHANGES: [Change; 22] = [
+/// Each clause broken, in the record of many kinds of set.
+pub const CHANGES: [Change; 22] = [
     |record| record.places[1].scope = 3,
     |record| record.places[1].encryption = 3,
     |record| record.places[4].decryption = 4,

@@ -88,7 +88,7 @@ fn values(at: usize, now: u8) -> Vec<u8> {
 }
 
 /// Whether a byte is one of a key, of key-associated data, or of a number.
-fn is_bulk(at: usize) -> bool {
+pub fn is_bulk(at: usize) -> bool {
     if at < COUNTER_BYTES {
         return true;
     }

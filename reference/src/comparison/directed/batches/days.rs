@@ -32,7 +32,9 @@ fn call(at: usize) -> Command {
         13 => event_of(kind::NEXUS_RESERVATION_LOSS, nexus),
         15 => vendor_release((at % 6) as u16),
         16 => security_out(nexus, SetPage::k().bytes()[..40 + at % 13].to_vec()),
-        17 => [event(kind::LOGICAL_UNIT_RESET), write(16 + nexus, true), event(kind::MICROCODE)][at % 3].clone(),
+        17 => {
+            [event(kind::LOGICAL_UNIT_RESET), write(16 + nexus, true), event(kind::MICROCODE)][at % 3].clone()
+        }
         _ => read(nexus, 0, 255),
     }
 }

@@ -1,6 +1,6 @@
 //! Batches with a wrong event, and with more than one wrong thing: "18 comes first".
 
-use super::days::{day, p7};
+use super::days::p7;
 use super::wrong_events::{every, one_of_each, page_bytes};
 use crate::comparison::batch_builder::BatchParts;
 use crate::comparison::record_builder::{full, mixed_without_pending};
@@ -19,9 +19,14 @@ pub fn sessions(sink: &mut Sink) {
 
 /// A sound batch over page K, of which each event shows.
 fn sound() -> BatchParts {
+    sound_of(6)
+}
+
+/// The same of so many events: its first ones, or all of them again and again.
+fn sound_of(count: usize) -> BatchParts {
     let batch = BatchParts::of(&p7());
     assert_eq!(batch.page_bytes, page_bytes());
-    batch
+    BatchParts::new(batch.events.into_iter().cycle().take(count).collect(), batch.page_bytes)
 }
 
 /// A batch with an event more.
@@ -34,9 +39,8 @@ fn with(batch: &BatchParts, position: usize, event: Event) -> BatchParts {
 /// Every wrong event alone, before, among and after sound ones.
 fn every_wrong_event(sink: &mut Sink) {
     let mut stage = Stage::new("a wrong event in a batch", mixed_without_pending(), sink);
-    let alone = BatchParts { events: Vec::new(), ..sound() };
     for event in every() {
-        stage.call(with(&alone, 0, event).command());
+        stage.call(with(&sound_of(0), 0, event).command());
         for position in [0, 3, 6] {
             stage.call(with(&sound(), position, event).command());
         }
@@ -44,13 +48,14 @@ fn every_wrong_event(sink: &mut Sink) {
     stage.finish();
 }
 
-/// A wrong event of each rule at every position of a batch of 64 over page bytes in which pages overlap.
+/// A wrong event at every position of a batch of 64, and one of each rule at some.
 fn every_position(sink: &mut Sink) {
     let mut stage = Stage::new("a wrong event at every position", full([0, 1, 2, 3]), sink);
-    let events: Vec<Event> = sound().events.into_iter().cycle().take(BATCH_EVENTS - 1).collect();
-    let batch = BatchParts::new(events, page_bytes());
+    let batch = sound_of(BATCH_EVENTS - 1);
     for (at, (_, event)) in one_of_each().into_iter().enumerate() {
-        for position in (0..BATCH_EVENTS).filter(|position| at == 0 || position % 7 == at % 7 || *position > 61) {
+        for position in
+            (0..BATCH_EVENTS).filter(|position| at == 0 || position % 7 == at % 7 || *position > 61)
+        {
             stage.call(with(&batch, position, event).command());
         }
     }
@@ -75,12 +80,11 @@ fn several_wrong_events(sink: &mut Sink) {
 /// A wrong event of each rule, or a part event, with too little room, with too many events, and with both.
 fn eighteen_first(sink: &mut Sink) {
     let mut stage = Stage::new("18 where 22 is due too", mixed_without_pending(), sink);
-    let many = |count: usize| BatchParts::new(day(2, count).iter().flat_map(events_of).collect(), page_bytes());
     for count in [0, 1, 5, 63, 64, 65] {
-        let batch = many(count);
-        let wrong = one_of_each().into_iter().flat_map(|(_, event)| {
-            [0, count / 2, count].map(|position| with(&batch, position, event))
-        });
+        let batch = sound_of(count);
+        let wrong = one_of_each()
+            .into_iter()
+            .flat_map(|(_, event)| [0, count / 2, count].map(|position| with(&batch, position, event)));
         for batch in wrong.chain([batch.clone().with_left_over(1), batch.clone().with_left_over(7)]) {
             let just = batch.room;
             let mut rooms = vec![0, just / 2, just, just + 4, LENT_LIMIT];
@@ -91,11 +95,6 @@ fn eighteen_first(sink: &mut Sink) {
         }
     }
     stage.finish();
-}
-
-/// The event that stands for a command without a page; none for another.
-fn events_of(command: &crate::stream::Command) -> Vec<Event> {
-    BatchParts::of(std::slice::from_ref(command)).events.into_iter().filter(|it| it.page_length == 0).collect()
 }
 
 /// The starting record makes no difference to what is refused.
