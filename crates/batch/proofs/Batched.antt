@@ -7,8 +7,9 @@ use mathlib.Core.List.{List, [], _++_}
 use native.Mathlib.Omega.{arith}
 use lib.ListN.{length, getD, take, drop, length-append, length-drop}
 use lib.Seq.{take-all, take-append-le, drop-append-le, drop-at}
-use Rattle.arrays.proofs.Base.{if-false}
+use Rattle.arrays.proofs.Base.{if-elim, if-false}
 use Rattle.wire.specs.Parts.{joined, parts}
+use Rattle.wire.proofs.Stores.{length-shown}
 use Rattle.device.specs.Record.{State}
 use Rattle.drive.specs.Calls.{Call}
 use Rattle.drive.specs.Checks.{answer}
@@ -39,6 +40,13 @@ pub record AsOneByOne (s : State) (events pages buffer : List ℕ) : Type 0 wher
 module _ (s : State) (events pages buffer : List ℕ) where
   pub batch-refused : isTaken (batchVerdict events pages (length buffer)) ≡ false → Untouched s events pages buffer
   batch-refused f = record { left = if-false _ (runFrom s (calls events pages)) s f; untold = if-false _ _ buffer f }
+
+  -- a buffer keeps its length
+  pub length-batch : length (batchBuffer s events pages buffer) ≡ length buffer
+  length-batch =
+      if-elim (λ (l : List ℕ). length l ≡ length buffer) (isTaken (batchVerdict events pages (length buffer)))
+      (λ t. length-shown (answerBytes s (calls events pages)) buffer)
+      (λ f. refl)
 
   -- four bytes an event
   pub length-told : length (answerBytes s (calls events pages)) ≡ 4 * (length events / 8)

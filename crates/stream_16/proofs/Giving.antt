@@ -10,8 +10,9 @@ use lib.Seq.{sets, length-take-le}
 use Rattle.arrays.proofs.Base.{cases, if-elim, if-true, if-false}
 use Rattle.wire.specs.Numbers.{two}
 use Rattle.wire.proofs.Stores.{length-shown}
-use Rattle.answer.specs.Answers.{isDone}
+use Rattle.answer.specs.Answers.{senseOf, isDone}
 use Rattle.answer.specs.declared.Answer.{Answer}
+use Rattle.answer.specs.declared.Answer.the-variants.{Done}
 use Rattle.device.specs.Record.{State}
 use Rattle.device.proofs.Selecting.{selected-within}
 use Rattle.device_16.specs.Model.{state, device}
@@ -26,11 +27,16 @@ use Rattle.drive_16.specs.Outcomes.{inOutcomeBy, inOutcome, writeOutcomeBy, wri
 use Rattle.drive_16.specs.declared.InOutcome.{InOutcome}
 use Rattle.drive_16.specs.declared.WriteOutcome.{WriteOutcome}
 use Rattle.drive_16.specs.declared.ReadOutcome.{ReadOutcome}
-use Rattle.command.specs.Requests.{lentMost}
-use Rattle.command.specs.Replies.{replyHeadSize, Replied, answered, whenDone, inBytes, inReply, writeReply, readReply}
+use Rattle.recording.specs.Verdicts.{verdictNumber}
+use Rattle.session_16.specs.declared.Ran.{Ran}
+use Rattle.batch.specs.Batches.{batchVerdict, batchBuffer}
+use Rattle.batch.proofs.Batched.{length-batch}
+use Rattle.batch_16.specs.Batches.{Batched}
+use Rattle.command.specs.Requests.{lentMost, batchEvents, batchPages, holdsEvents}
+use Rattle.command.specs.Replies.{replyHeadSize, Replied, answered, whenDone, unknownReply, inBytes, inReply, writeReply, readReply, batchReply}
 use Rattle.wire.proofs.Numbers.{two-lower}
 use Rattle.wire.proofs.Stores.{part-stored}
-use Rattle.stream_16.specs.Stream.{lentFrom, lentPart, replyMost, replyOf, replyWith, Given}
+use Rattle.stream_16.specs.Stream.{batchFrom, inFrom, partFrom, replyMost, replyOf, replyWith, Given}
 use Rattle.stream_16.specs.declared.Reply.{Reply}
 
 -- a reply without data leaves the buffer as it was
@@ -51,29 +57,63 @@ module _ (s : State) (command : Command) where
       (λ f. rw f refl)
 
   -- the lent part came back as e, and the two bytes of the page's full length were stored before it
-  pub in-given : (size k : ℕ) (b : List ℕ) {o : InOutcome} {e full end : List ℕ} {r : Reply} → lentFrom + size ≤ length b → size ≤ lentMost → k ≡ size
-      → o ≡ inOutcome s command → e ≡ inBuffer s command (answer s (securityIn command)) (take k (drop lentFrom b))
-      → full ≡ two (o .length % 65536) → end ≡ sets (take lentFrom b ++ (e ++ drop k (drop lentFrom b))) replyHeadSize full
-      → r ≡ replyWith (o .device) (o .answer) (2 + size) → Given (inReply s command (lentPart size b)) b r end
+  pub in-given : (size k : ℕ) (b : List ℕ) {o : InOutcome} {e full end : List ℕ} {r : Reply} → replyMost ≤ length b → size ≤ lentMost → k ≡ size
+      → o ≡ inOutcome s command → e ≡ inBuffer s command (answer s (securityIn command)) (take k (drop inFrom b))
+      → full ≡ two (o .length % 65536) → end ≡ sets (take inFrom b ++ (e ++ drop k (drop inFrom b))) replyHeadSize full
+      → r ≡ replyWith (o .device) (o .answer) (2 + size) → Given (inReply s command (partFrom inFrom size b)) b r end
   unfolding inReply inOutcomeBy
-  in-given size k b {o} {e} {full} {end} {r} fits small same p q w t u =
+  in-given size k b {o} {e} {full} {end} {r} long small same p q w t u =
       let a = answer s (securityIn command) in
-      let lent = lentPart size b in
-      let gave : e ≡ inBuffer s command a lent = q ∙ ap (λ (j : ℕ). inBuffer s command a (take j (drop lentFrom b))) same in
+      let lent = partFrom inFrom size b in
+      let gave : e ≡ inBuffer s command a lent = q ∙ ap (λ (j : ℕ). inBuffer s command a (take j (drop inFrom b))) same in
       let told : full ≡ two (inLength s command a) = w ∙ ap (λ (x : InOutcome). two (x .length % 65536)) p ∙ two-lower (inLength s command a) in
-      let size-lent : length lent ≡ size = length-take-le size (drop lentFrom b) (omega (arith, length-drop lentFrom b)) in
+      let size-lent : length lent ≡ size = length-take-le size (drop inFrom b) (omega (arith, length-drop inFrom b)) in
       let size-kept : length (inBuffer s command a lent) ≡ size = length-lent a lent ∙ size-lent in
       let size-e : length e ≡ size = ap length gave ∙ size-kept in
-      let before : replyHeadSize + length full ≡ lentFrom = ap (λ (x : List ℕ). replyHeadSize + length x) told in
+      let before : replyHeadSize + length full ≡ inFrom = ap (λ (x : List ℕ). replyHeadSize + length x) told in
       let count : 2 + size ≡ length (inBytes s command a lent) = sym (length-append (two (inLength s command a)) (inBuffer s command a lent) ∙ ap (λ (j : ℕ). 2 + j) size-kept) in
       record {
         tells = u ∙ ap (λ (x : InOutcome). replyWith (x .device) (x .answer) (2 + size)) p ∙ ap (replyWith (device (after s (securityIn command))) a) count;
         holds =
-            t ∙ ap (λ (j : ℕ). sets (take lentFrom b ++ (e ++ drop j (drop lentFrom b))) replyHeadSize full) same
-            ∙ part-stored b e full replyHeadSize size lentFrom before fits size-e
+            t ∙ ap (λ (j : ℕ). sets (take inFrom b ++ (e ++ drop j (drop inFrom b))) replyHeadSize full) same
+            ∙ part-stored b e full replyHeadSize size inFrom before (omega arith) size-e
             ∙ (λ i. sets b replyHeadSize (told i ++ gave i));
         fits = omega (arith, count);
       }
+
+-- a batch
+module _ (s : State) (bytes : List ℕ) where
+  -- data that hold fewer events than they say
+  pub batch-unknown : (b lent : List ℕ) (r : Reply) → holdsEvents bytes ≡ false → r ≡ replyOf (unknownReply s) → Given (batchReply s bytes lent) b r b
+  unfolding batchReply
+  batch-unknown b lent r f u =
+      let e = if-false (holdsEvents bytes) _ (unknownReply s) f in
+      kept (batchReply s bytes lent) b r (ap (λ (x : Replied). x .bytes) e) (u ∙ ap replyOf (sym e))
+
+  -- the lent part came back as e
+  pub batch-given : (size k : ℕ) (b : List ℕ) {events pages e : List ℕ} {ran : Ran} {number : ℕ} → replyMost ≤ length b → size ≤ lentMost → k ≡ size → holdsEvents bytes ≡ true
+      → events ≡ batchEvents bytes → pages ≡ batchPages bytes → Batched s events pages (take k (drop batchFrom b)) ran e → number ≡ verdictNumber (ran .verdict)
+      → Given (batchReply s bytes (partFrom batchFrom size b)) b (record { device = ran .device; number = number; sense = senseOf Done; length = size }) (take batchFrom b ++ (e ++ drop k (drop batchFrom b)))
+  unfolding batchReply
+  batch-given size k b {events} {pages} {e} {ran} {number} long small same holds p q g h =
+      let lent = partFrom batchFrom size b in
+      let ev = batchEvents bytes in
+      let pg = batchPages bytes in
+      let sized : Batched s events pages lent ran e = subst (λ (j : ℕ). Batched s events pages (take j (drop batchFrom b)) ran e) same g in
+      let gave : Batched s ev pg lent ran e = subst (λ (l : List ℕ). Batched s ev l lent ran e) q (subst (λ (l : List ℕ). Batched s l pages lent ran e) p sized) in
+      let size-lent : length lent ≡ size = length-take-le size (drop batchFrom b) (omega (arith, length-drop batchFrom b)) in
+      let size-e : length e ≡ size = ap length (gave .told) ∙ length-batch s ev pg lent ∙ size-lent in
+      let count : size ≡ length (batchBuffer s ev pg lent) = sym (length-batch s ev pg lent ∙ size-lent) in
+      let told : number ≡ verdictNumber (batchVerdict ev pg (length lent)) = h ∙ ap (λ (x : Ran). verdictNumber (x .verdict)) (gave .ran) in
+      given-as (sym (if-true (holdsEvents bytes) _ (unknownReply s) holds))
+      (record {
+        tells = λ i. record { device = gave .ran i .device; number = told i; sense = senseOf Done; length = count i };
+        holds =
+            ap (λ (j : ℕ). take batchFrom b ++ (e ++ drop j (drop batchFrom b))) same
+            ∙ part-stored b e [] batchFrom size batchFrom (omega arith) (omega arith) size-e
+            ∙ ap (sets b replyHeadSize) (gave .told);
+        fits = omega (arith, count);
+      })
 
 -- a reply that has data where its answer is 0
 module _ (a : Answer) (bytes : List ℕ) (s : State) where

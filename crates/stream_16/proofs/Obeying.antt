@@ -1,6 +1,6 @@
 -- An order followed, and a command obeyed.
 -- Assumes nothing.
-use Prim.Native.Nat.{ℕ, _+_, _<_, _≤_}
+use Prim.Native.Nat.{ℕ, _<_, _≤_}
 use mathlib.Core.Path.{_≡_, refl, sym, ap, _∙_}
 use mathlib.Core.List.{List}
 use borrow.Author.Tests.{lt-ltb, le-ltb}
@@ -18,11 +18,12 @@ use Rattle.drive.specs.After.{changedBy, carriedOut}
 use Rattle.drive_16.specs.Outcomes.{poweredOn, outcomeBy, outcome}
 use Rattle.drive_16.specs.declared.Outcome.{Outcome}
 use Rattle.command.specs.Requests.{lentMost, orderOf, lentSize}
-use Rattle.command.specs.Replies.{Replied, unknownReply, called, obeyed}
+use Rattle.calls.specs.declared.Asked.{Asked}
+use Rattle.command.specs.Replies.{Replied, unknownReply, called, askedReply, obeyed}
 use Rattle.command.specs.declared.Request.{Request}
 use Rattle.command.specs.declared.Order.{Order}
 use Rattle.command.proofs.Requests.{lends-most}
-use Rattle.stream_16.specs.Stream.{lentFrom, lentPart, replyMost, replyOf, replyWith, Given, served}
+use Rattle.stream_16.specs.Stream.{lentPart, replyMost, replyOf, replyWith, Given, served}
 use Rattle.stream_16.specs.declared.Reply.{Reply}
 use Rattle.stream_16.proofs.Giving.{kept}
 
@@ -40,15 +41,19 @@ power-told s nexuses places p u =
     let same : powerOn nexusCount placeCount ≡ powerOn (length (s .nexuses)) (length (s .sets)) = rw (nexuses, places) refl in
     u ∙ ap (λ (x : Outcome). replyWith (x .device) (x .answer) 0) p ∙ ap (λ (x : State). replyWith (device x) Done 0) same
 
--- what is lent to an order that is known fits
-pub fits-known : {order known : Order} {n : ℕ} → order ≡ known → (lentFrom + lentSize order ≤ n) × (lentSize order ≤ lentMost)
-    → (lentFrom + lentSize known ≤ n) × (lentSize known ≤ lentMost)
-fits-known e h = rw e at h
+-- what is lent to an order that is known is no more than it may be
+pub few-known : {order known : Order} → order ≡ known → lentSize order ≤ lentMost → lentSize known ≤ lentMost
+few-known e h = rw e at h
 
 -- an order that is known is followed
 pub followed : (s : State) (page b : List ℕ) {order known : Order} {r : Reply} {end : List ℕ} → order ≡ known
-    → Given (obeyed s known page (lentPart (lentSize known) b)) b r end → Given (obeyed s order page (lentPart (lentSize order) b)) b r end
+    → Given (obeyed s known page (lentPart known b)) b r end → Given (obeyed s order page (lentPart order b)) b r end
 followed s page b e g = rw e g
+
+-- and so is a call
+pub asked-followed : (s : State) (page lent b : List ℕ) {asked known : Asked} {r : Reply} {end : List ℕ} → asked ≡ known
+    → Given (askedReply s known page lent) b r end → Given (askedReply s asked page lent) b r end
+asked-followed s page lent b e g = rw e g
 
 module _ (s : State) (request : Request) (page b : List ℕ) where
   -- a buffer that is too short
@@ -59,11 +64,10 @@ module _ (s : State) (request : Request) (page b : List ℕ) where
       kept (served s request page b) b r (ap (λ (x : Replied). x .bytes) e) (u ∙ ap replyOf (sym e))
 
   -- one that isn't holds what is lent
-  pub lent-fits : {order : Order} → replyMost ≤ length b → order ≡ orderOf request
-      → (lentFrom + lentSize order ≤ length b) × (lentSize order ≤ lentMost)
-  lent-fits h e = (omega (arith, ap lentSize e, lends-most request), omega (arith, ap lentSize e, lends-most request))
+  pub lent-fits : {order : Order} → replyMost ≤ length b → order ≡ orderOf request → (replyMost ≤ length b) × (lentSize order ≤ lentMost)
+  lent-fits h e = (h, omega (arith, ap lentSize e, lends-most request))
 
   pub long-served : {order : Order} {r : Reply} {end : List ℕ} → replyMost ≤ length b → order ≡ orderOf request
-      → Given (obeyed s order page (lentPart (lentSize order) b)) b r end → Given (served s request page b) b r end
+      → Given (obeyed s order page (lentPart order b)) b r end → Given (served s request page b) b r end
   unfolding served
   long-served {order} h e g = rw (le-ltb _ _ h) (rw e at g)

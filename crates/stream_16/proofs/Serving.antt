@@ -8,13 +8,13 @@ use lib.ListN.{length}
 use Rattle.device.specs.Record.{State}
 use Rattle.sizes_16.specs.Sizes.{nexusCount, placeCount}
 use Rattle.record.specs.Bytes.{recordSize}
-use Rattle.command.specs.Requests.{orderOf, lentSize}
+use Rattle.command.specs.Requests.{orderOf}
 use Rattle.command.specs.Replies.{replied}
 use Rattle.command.specs.declared.Request.{Request}
 use Rattle.stream_16.specs.Stream.{lentPart, replyMost, served}
 
 -- Room for IN's head of 8 bytes, a lent buffer of 4,096 and a record: then each command is replied to as docs/CONSOLE.md says.
 pub is-served : (s : State) (request : Request) (page buffer : List ℕ) → 8 + 4096 + recordSize nexusCount placeCount ≤ length buffer
-    → served s request page buffer ≡ replied s request page (lentPart (lentSize (orderOf request)) buffer)
+    → served s request page buffer ≡ replied s request page (lentPart (orderOf request) buffer)
 unfolding served
 is-served s request page buffer h = simp (le-ltb (length buffer) replyMost h)

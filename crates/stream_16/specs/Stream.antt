@@ -16,18 +16,34 @@ use Rattle.device_16.specs.declared.Device.{Device}
 use Rattle.command.specs.Requests.{orderOf, lentMost, lentSize}
 use Rattle.command.specs.Replies.{replyHeadSize, Replied, unknownReply, replied}
 use Rattle.command.specs.declared.Request.{Request}
+use Rattle.command.specs.declared.Order.{Order}
+use Rattle.command.specs.declared.Order.the-variants.{Unknown, Ask, Batch, ReadStatus, TakeRecord, GiveRecord}
 use Rattle.stream_16.specs.declared.Reply.{Reply}
 
--- IN: "the page's full length (2 ..), then the lent buffer whole"
-abbrev pub lentFrom : ℕ
-lentFrom = replyHeadSize + 2
+-- where the lent buffer stands in the reply's: a batch's just after the reply's head, IN's after "the page's full length (2 ..)" too
+abbrev pub batchFrom : ℕ
+batchFrom = replyHeadSize
 
-abbrev pub lentPart : ℕ → List ℕ → List ℕ
-lentPart size buffer = take size (drop lentFrom buffer)
+abbrev pub inFrom : ℕ
+inFrom = replyHeadSize + 2
+
+abbrev pub lentFrom : Order → ℕ
+lentFrom Unknown = inFrom
+lentFrom (Ask asked size) = inFrom
+lentFrom (Batch size) = batchFrom
+lentFrom ReadStatus = inFrom
+lentFrom TakeRecord = inFrom
+lentFrom GiveRecord = inFrom
+
+abbrev pub partFrom : (from size : ℕ) → List ℕ → List ℕ
+partFrom from size buffer = take size (drop from buffer)
+
+abbrev pub lentPart : Order → List ℕ → List ℕ
+lentPart order buffer = partFrom (lentFrom order) (lentSize order) buffer
 
 -- room for every reply: IN's with the largest lent buffer, and the record's
 abbrev pub replyMost : ℕ
-replyMost = lentFrom + lentMost + recordSize nexusCount placeCount
+replyMost = inFrom + lentMost + recordSize nexusCount placeCount
 
 abbrev pub replyOf : Replied → Reply
 replyOf x = record { device = device (x .state); number = x .number; sense = x .sense; length = length (x .bytes) }
@@ -45,4 +61,4 @@ pub record Given (x : Replied) (buffer : List ℕ) (r : Reply) (after : List ℕ
 -- a buffer that has no room for every reply serves none: the command is answered as an unknown one
 unfoldable pub served : State → Request → (page buffer : List ℕ) → Replied
 served s request page buffer =
-    if ltb (length buffer) replyMost then unknownReply s else replied s request page (lentPart (lentSize (orderOf request)) buffer)
+    if ltb (length buffer) replyMost then unknownReply s else replied s request page (lentPart (orderOf request) buffer)

@@ -1,6 +1,7 @@
 // The drive of this model on docs/CONSOLE.md's stream: a command obeyed, and its reply.
 use answer::Answer;
 use answer::Sense;
+use calls::Asked;
 use command::LENT_MOST;
 use command::Order;
 use command::Request;
@@ -16,15 +17,16 @@ ghost use Prim.Native.Nat.{_+_, _≤_};
 ghost use lib.ListN.{length};
 ghost use Rattle.device_16.specs.Model.{state};
 ghost use Rattle.command.specs.Requests.{lentMost, lentSize};
-ghost use Rattle.command.specs.Replies.{replyHeadSize, answered, whenDone, unknownReply, inReply, writeReply, readReply, statusReply, takeReply, giveReply, obeyed};
-ghost use Rattle.stream_16.specs.Stream.{lentFrom, lentPart, replyMost, replyOf, replyWith, Given, served};
+ghost use Rattle.command.specs.Replies.{replyHeadSize, answered, whenDone, unknownReply, inReply, writeReply, readReply, statusReply, takeReply, giveReply, askedReply, batchReply, obeyed};
+ghost use Rattle.stream_16.specs.Stream.{batchFrom, inFrom, partFrom, lentPart, replyMost, replyOf, replyWith, Given, served};
 
 pub const HEAD_SIZE: usize = 6;
 
-const LENT_FROM: usize = HEAD_SIZE + 2;
+// Where IN's lent buffer stands in the reply's; a batch's stands at HEAD_SIZE.
+const IN_FROM: usize = HEAD_SIZE + 2;
 
 // Room for every reply: IN's with the largest lent buffer, and the record's, whichever is longer in this model.
-pub const REPLY_MOST: usize = LENT_FROM + LENT_MOST as usize + RECORD_SIZE;
+pub const REPLY_MOST: usize = IN_FROM + LENT_MOST as usize + RECORD_SIZE;
 
 // The values of a status page before its key-associated data.
 const VALUES_SIZE: usize = 11;
@@ -75,10 +77,10 @@ fn unknown(d: Device) -> Reply
 
 // SECURITY PROTOCOL IN. The lent buffer is a part of the reply's own.
 fn give_in(d: Device, command: Command, size: usize, buffer: &mut [u8]) -> Reply
-    requires { ⌜ (lentFrom + size ≤ length (now buffer)) × (size ≤ lentMost) ⌝ }
-    ensures { λ r. ⌜ Given (inReply (state d) command (lentPart size (now (buffer .entry)))) (now (buffer .entry)) r (now (buffer .exit)) ⌝ }
+    requires { ⌜ (replyMost ≤ length (now buffer)) × (size ≤ lentMost) ⌝ }
+    ensures { λ r. ⌜ Given (inReply (state d) command (partFrom inFrom size (now (buffer .entry)))) (now (buffer .entry)) r (now (buffer .exit)) ⌝ }
 {
-    let outcome = drive_16::security_in(d, command, &mut buffer[LENT_FROM..LENT_FROM + size]);
+    let outcome = drive_16::security_in(d, command, &mut buffer[IN_FROM..IN_FROM + size]);
     let full = wire_code::two((outcome.length % 65536) as u16);
     wire_code::put(buffer, HEAD_SIZE, &full);
     let answer = outcome.answer;
@@ -167,28 +169,63 @@ fn give_record(d: Device, buffer: &mut [u8]) -> Reply
     give(d, Answer::Done, &bytes, buffer)
 }
 
-// An order, where the buffer that it asks for is there.
+// A call of the drive's. IN lends a part of the reply's buffer.
+fn ask(d: Device, asked: Asked, size: usize, page: &[u8], buffer: &mut [u8]) -> Reply
+    requires { ⌜ (replyMost ≤ length (now buffer)) × (size ≤ lentMost) ⌝ }
+    ensures { λ r. ⌜ Given (askedReply (state d) asked (now (page .entry)) (partFrom inFrom size (now (buffer .entry)))) (now (buffer .entry)) r (now (buffer .exit)) ⌝ }
+{
+    match asked {
+        Asked::PowerOn => plain(drive_16::power_on()),
+        Asked::In(command) => give_in(d, command, size, buffer),
+        Asked::Out(command) => plain(drive_16::security_out(d, command, page)),
+        Asked::Write(n, supported) => give_write(d, n, supported, buffer),
+        Asked::Read(n, block) => give_read(d, n, block, buffer),
+        Asked::UnitReset => plain(drive_16::unit_reset(d)),
+        Asked::Happen(event) => plain(drive_16::happen(d, event)),
+    }
+}
+
+// Several events in one call. The lent buffer is a part of the reply's own, and all of its data.
+fn give_batch(d: Device, bytes: &[u8], size: usize, buffer: &mut [u8]) -> Reply
+    requires { ⌜ (replyMost ≤ length (now buffer)) × (size ≤ lentMost) ⌝ }
+    ensures { λ r. ⌜ Given (batchReply (state d) (now (bytes .entry)) (partFrom batchFrom size (now (buffer .entry)))) (now (buffer .entry)) r (now (buffer .exit)) ⌝ }
+{
+    if !command_code::holds_events(bytes) {
+        return unknown(d);
+    }
+    let ran = batch_16::batch(
+        d,
+        command_code::batch_events(bytes),
+        command_code::batch_pages(bytes),
+        &mut buffer[HEAD_SIZE..HEAD_SIZE + size],
+    );
+    let after = ran.device;
+    let verdict = ran.verdict;
+    Reply {
+        device: after,
+        number: recording_code::verdict_number(verdict),
+        sense: Sense::NONE,
+        length: size,
+    }
+}
+
+// An order, where the buffer has room for every reply.
 fn follow(d: Device, order: Order, page: &[u8], buffer: &mut [u8]) -> Reply
-    requires { ⌜ (lentFrom + lentSize order ≤ length (now buffer)) × (lentSize order ≤ lentMost) ⌝ }
-    ensures { λ r. ⌜ Given (obeyed (state d) order (now (page .entry)) (lentPart (lentSize order) (now (buffer .entry)))) (now (buffer .entry)) r (now (buffer .exit)) ⌝ }
+    requires { ⌜ (replyMost ≤ length (now buffer)) × (lentSize order ≤ lentMost) ⌝ }
+    ensures { λ r. ⌜ Given (obeyed (state d) order (now (page .entry)) (lentPart order (now (buffer .entry)))) (now (buffer .entry)) r (now (buffer .exit)) ⌝ }
 {
     match order {
         Order::Unknown => unknown(d),
-        Order::PowerOn => plain(drive_16::power_on()),
-        Order::In(command, size) => give_in(d, command, size as usize, buffer),
-        Order::Out(command) => plain(drive_16::security_out(d, command, page)),
-        Order::Write(n, supported) => give_write(d, n, supported, buffer),
-        Order::Read(n, block) => give_read(d, n, block, buffer),
-        Order::UnitReset => plain(drive_16::unit_reset(d)),
-        Order::Happen(event) => plain(drive_16::happen(d, event)),
+        Order::Ask(asked, size) => ask(d, asked, size as usize, page, buffer),
+        Order::Batch(size) => give_batch(d, page, size as usize, buffer),
         Order::ReadStatus => give_status(d, page, buffer),
         Order::TakeRecord => take_record(d, page),
         Order::GiveRecord => give_record(d, buffer),
     }
 }
 
-// A command with its data, and its reply: the data bytes are stored in the buffer from HEAD_SIZE on. IN lends what the buffer holds from
-// LENT_FROM on. A buffer shorter than REPLY_MOST serves no command.
+// A command with its data, and its reply: the data bytes are stored in the buffer from HEAD_SIZE on. IN and a batch lend a part of it. A
+// buffer shorter than REPLY_MOST serves no command.
 pub fn obey(d: Device, request: Request, page: &[u8], buffer: &mut [u8]) -> Reply
     ensures { λ r. ⌜ Given (served (state d) request (now (page .entry)) (now (buffer .entry))) (now (buffer .entry)) r (now (buffer .exit)) ⌝ }
 {

@@ -1,5 +1,7 @@
 //! Random sessions. A shadow drive follows along, so that pages and events fit the record they meet.
 
+mod batches;
+
 use super::numbers::Numbers;
 use super::page_builder::{random_damage, random_list, set_length, status_header, Edit, SetPage};
 use super::record_builder::random_record;
@@ -11,6 +13,9 @@ use crate::codes::{decryption, encryption, opening_key, scope, ALGORITHM};
 use crate::record_bytes::{self, COUNTER_BYTES, NEXUS_BYTES, PLACE_BYTES};
 use crate::sizes::{KEY_BYTES, NEXUSES, PLACES};
 use crate::stream::{kind, Command, Drive};
+
+/// So many of a hundred calls are batches.
+const BATCHES: usize = 4;
 
 /// Makes random sessions from a seed.
 pub struct RandomSessions {
@@ -36,7 +41,11 @@ impl RandomSessions {
         let length = (3 + self.numbers.below(60)).min(longest.max(1));
         let mut commands = Vec::with_capacity(length);
         for at in 0..length {
-            let command = if at == 0 { self.start() } else { self.command() };
+            let command = match at {
+                0 => self.start(),
+                _ if self.numbers.percent(BATCHES) => self.batch(),
+                _ => self.command(),
+            };
             self.shadow.answer(&command);
             commands.push(command);
         }
@@ -46,6 +55,11 @@ impl RandomSessions {
     /// So many commands from power-on, of those that come out of `fit`.
     pub fn commands(&mut self, count: usize, fit: impl Fn(Command) -> Option<Command>) -> Vec<Command> {
         self.shadow = Drive::new();
+        self.next_commands(count, fit)
+    }
+
+    /// So many commands from where the shadow drive is, of those that come out of `fit`.
+    fn next_commands(&mut self, count: usize, fit: impl Fn(Command) -> Option<Command>) -> Vec<Command> {
         let mut commands = Vec::with_capacity(count);
         while commands.len() < count {
             if let Some(command) = fit(self.command()) {
@@ -92,9 +106,9 @@ impl RandomSessions {
         command
     }
 
-    /// A kind of 12 to 252, with a length though no data follows.
+    /// A kind of 13 to 252, with a length though no data follows.
     fn unknown_kind(&mut self) -> Command {
-        let kind = if self.numbers.percent(50) { 12 } else { 12 + self.numbers.below(241) as u8 };
+        let kind = if self.numbers.percent(50) { 13 } else { 13 + self.numbers.below(240) as u8 };
         Command { length: self.numbers.pick(&[0, 0, 1, 52, 1317]), ..event(kind) }
     }
 
@@ -127,8 +141,10 @@ impl RandomSessions {
         if !has_nexus {
             command.nexus = self.numbers.byte();
         }
-        let has_argument =
-            matches!(command.kind, kind::IN | kind::OUT | kind::WRITE | kind::READ | kind::VENDOR_RELEASE);
+        let has_argument = matches!(
+            command.kind,
+            kind::IN | kind::OUT | kind::WRITE | kind::READ | kind::VENDOR_RELEASE | kind::BATCH
+        );
         if !has_argument {
             command.argument = self.numbers.next() as u16;
         }

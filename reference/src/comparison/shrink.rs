@@ -1,7 +1,11 @@
-//! A session with a difference, made short: commands are dropped, then pages shortened and bytes zeroed.
+//! A session with a difference, made short: commands are dropped, then pages shortened and bytes zeroed. Of batches,
+//! events are dropped and page bytes cut; one whose events differ one by one too becomes those.
 
+use super::batch_builder::BatchParts;
 use super::difference::{compare_fresh, Difference};
 use super::page_builder::set_length;
+use super::recordings::shrink::cut_from_page;
+use crate::recording::{ANSWER_BYTES, BATCH_EVENTS};
 use crate::stream::{kind, Command};
 use std::time::{Duration, Instant};
 
@@ -36,7 +40,13 @@ pub fn shrink(program: &[String], commands: &[Command], patience: Duration) -> O
         short: Short { commands, difference },
     };
     shrinker.drop_commands();
+    for number in (0..shrinker.short.commands.len()).rev() {
+        shrinker.send_one_by_one(number);
+    }
+    shrinker.drop_commands();
     for number in 0..shrinker.short.commands.len() {
+        shrinker.drop_events(number);
+        shrinker.cut_page_bytes(number);
         shrinker.shorten_page(number);
         shrinker.zero_data(number);
         shrinker.lessen_lent_buffer(number);
@@ -93,6 +103,64 @@ impl Shrinker<'_> {
         self.keep(commands)
     }
 
+    /// Sends the events of a batch as commands.
+    fn send_one_by_one(&mut self, number: usize) {
+        let Some(command) = self.short.commands.get(number).filter(|it| it.kind == kind::BATCH) else {
+            return;
+        };
+        let Some(batch) = command.batch().map(|batch| batch.recording()) else { return };
+        if batch.events.len() <= BATCH_EVENTS {
+            let calls = batch.events.iter().map(|event| batch.command(event));
+            let mut commands = self.short.commands.clone();
+            commands.splice(number..=number, calls);
+            self.keep(commands);
+        }
+    }
+
+    /// The parts of a command that is a batch.
+    fn batch(&self, number: usize) -> Option<BatchParts> {
+        let command = self.short.commands.get(number).filter(|command| command.kind == kind::BATCH)?;
+        BatchParts::read(command)
+    }
+
+    /// Drops runs of a batch's events, long runs first, the room lessened with them or as it was; then the part event.
+    fn drop_events(&mut self, number: usize) {
+        let mut run = self.batch(number).map_or(0, |batch| batch.events.len());
+        while run > 0 {
+            let mut start = 0;
+            while let Some(batch) = self.batch(number).filter(|batch| start + run <= batch.events.len()) {
+                let mut fewer = batch;
+                fewer.events.drain(start..start + run);
+                let lessened = fewer.clone().with_room(fewer.room.saturating_sub(run * ANSWER_BYTES));
+                if !self.keep_with(number, lessened.command()) && !self.keep_with(number, fewer.command()) {
+                    start += run;
+                }
+            }
+            run /= 2;
+        }
+        if let Some(batch) = self.batch(number) {
+            self.keep_with(number, BatchParts { left_over: Vec::new(), ..batch }.command());
+        }
+    }
+
+    /// Cuts runs of a batch's page bytes, long runs first.
+    fn cut_page_bytes(&mut self, number: usize) {
+        let mut run = self.batch(number).map_or(0, |batch| batch.page_bytes.len());
+        while run > 0 {
+            let mut start = 0;
+            while let Some(batch) = self.batch(number).filter(|batch| start + run <= batch.page_bytes.len()) {
+                let mut fewer = batch;
+                fewer.page_bytes.drain(start..start + run);
+                let outs = fewer.events.iter_mut().filter(|event| event.kind == kind::OUT);
+                outs.for_each(|event| cut_from_page(event, start, run));
+                if !self.keep_with(number, fewer.command()) {
+                    start += run;
+                }
+            }
+            run /= 2;
+        }
+    }
+
     /// Cuts the data of OUT and of the status reader, the page's length as it was or made right.
     fn shorten_page(&mut self, number: usize) {
         let mut cut = match self.short.commands.get(number) {
@@ -146,15 +214,17 @@ impl Shrinker<'_> {
         }
     }
 
-    /// Makes the lent buffer of IN smaller.
+    /// Makes the lent buffer of IN, or of a batch, smaller.
     fn lessen_lent_buffer(&mut self, number: usize) {
-        let Some(command) = self.short.commands.get(number) else { return };
-        if command.kind != kind::IN {
-            return;
-        }
-        let command = command.clone();
-        for length in 0..command.length.min(128) {
-            if self.keep_with(number, Command { length, ..command.clone() }) {
+        let Some(command) = self.short.commands.get(number).cloned() else { return };
+        let with_size = |size| match command.kind {
+            kind::IN => Some(Command { length: size, ..command.clone() }),
+            kind::BATCH => Some(Command { argument: size, ..command.clone() }),
+            _ => None,
+        };
+        let size = if command.kind == kind::IN { command.length } else { command.argument };
+        for smaller in (0..size.min(128)).filter_map(with_size) {
+            if self.keep_with(number, smaller) {
                 return;
             }
         }

@@ -1,8 +1,9 @@
-//! Tests of the reference against document 01, and requests 1 to 3 and 11 of document 02.
+//! Tests of the reference against document 01, and requests 1 to 3, 5 and 11 of document 02.
 
 #![forbid(unsafe_code)]
 
 mod answers;
+mod batch;
 mod ceem;
 mod claim;
 mod events;

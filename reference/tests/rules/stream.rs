@@ -3,7 +3,8 @@
 use crate::given::k;
 use reference::comparison::record_builder::mixed;
 use reference::comparison::session::{
-    event, give_record, load, load_bytes, power_on, read, read_status, security_in, security_out, write,
+    batch, event, give_record, load, load_bytes, power_on, read, read_status, security_in, security_out,
+    write,
 };
 use reference::record_bytes::give;
 use reference::stream::{serve, Command, Drive};
@@ -111,8 +112,120 @@ fn a_record_that_is_not_well_formed_is_taken_and_given_and_refused() {
 
 #[test]
 fn unknown_kinds_have_no_data() {
-    let unknown = Command { length: 500, ..event(12) };
+    let unknown = Command { length: 500, ..event(13) };
     assert_eq!(replies_to(&[unknown, event(252)]), [255, 0, 0, 0, 0, 0, 255, 0, 0, 0, 0, 0]);
+}
+
+/// The data of a batch: E, the events, the page bytes.
+fn batch_data(events: &[[u8; 8]], page_bytes: &[u8]) -> Vec<u8> {
+    let length = 8 * events.len() as u16;
+    [&length.to_be_bytes()[..], &events.concat(), page_bytes].concat()
+}
+
+/// K from nexus 3, whose page is the page bytes; a write of nexus 3 without support.
+const OUT_K: [u8; 8] = [2, 3, 0x00, 0x10, 0, 0, 0, 52];
+const WRITE: [u8; 8] = [3, 3, 0, 0, 0, 0, 0, 0];
+
+#[test]
+fn a_batch_is_kind_12_with_the_buffers_size_as_argument() {
+    let data = batch_data(&[OUT_K, WRITE], &k());
+    assert_eq!(data[..2], [0, 16]);
+    let mut bytes = Vec::new();
+    batch(data.clone(), 10).give(&mut bytes);
+    assert_eq!(bytes[..8], [12, 0, 0, 10, 0, 0, 0, 70]);
+    assert_eq!(bytes[8..], data);
+    let given = replies(&bytes);
+    assert_eq!(given, [0, 0, 0, 0, 0, 10, 0, 0, 0, 0, 12, 7, 0x74, 7, 0xA5, 0xA5]);
+}
+
+#[test]
+fn a_refused_batch_gives_its_lent_buffer() {
+    let given = replies_to(&[
+        batch(batch_data(&[OUT_K, WRITE], &k()), 7),
+        batch(batch_data(&[OUT_K, WRITE], &k()[..51]), 8),
+        batch(batch_data(&[OUT_K], &k())[..10].to_vec(), 4),
+        batch(vec![0, 1, 0], 2),
+        batch(vec![0, 0], 0),
+    ]);
+    let expected = [
+        &[18, 0, 0, 0, 0, 7][..],
+        &[0xA5; 7],
+        &[22, 0, 0, 0, 0, 8],
+        &[0xA5; 8],
+        &[22, 0, 0, 0, 0, 4],
+        &[0xA5; 4],
+        &[22, 0, 0, 0, 0, 2],
+        &[0xA5; 2],
+        &[0; 6],
+    ];
+    assert_eq!(given, expected.concat());
+}
+
+#[test]
+fn a_batch_has_its_data_read_where_it_is_unknown_too() {
+    const UNKNOWN: [u8; 6] = [255, 0, 0, 0, 0, 0];
+    let data = batch_data(&[OUT_K], &k());
+    // no E, half an E, E past the data by one and by much, a buffer above 4,096, and both
+    let unknown = [
+        batch(vec![], 4),
+        batch(vec![0], 4),
+        batch(vec![0, 1], 4),
+        batch(vec![0, 8, 5, 0, 0, 0, 0, 0, 0], 4),
+        batch([&[0xFF, 0xFF][..], &data[2..]].concat(), 4),
+        batch(data.clone(), 4097),
+        batch(data.clone(), 65_535),
+        batch(vec![], 4097),
+        batch(vec![9; 4000], 4097),
+    ];
+    for command in unknown {
+        // in step afterwards, and the record stays: the write is clear
+        let given = replies_to(&[command.clone(), write(3, false), command, power_on()]);
+        assert_eq!(given, [&UNKNOWN[..], &[0, 0, 0, 0, 0, 3, 0, 0, 0], &UNKNOWN, &[0; 6]].concat());
+    }
+    // the limits themselves aren't unknown: E at the data's end, 4,096 bytes
+    for (data, room) in [(data.clone(), 4096), (vec![0, 0], 4096), (vec![0, 8, 5, 0, 0, 0, 0, 0, 0, 0], 4)] {
+        let given = replies_to(&[batch(data, room), power_on()]);
+        assert_eq!(given[..4], [0; 4]);
+        assert_eq!(given.len(), 6 + usize::from(room) + 6);
+    }
+}
+
+#[test]
+fn a_batch_ignores_nexus_protocol_and_port() {
+    let sent = batch(batch_data(&[OUT_K, WRITE], &k()), 8);
+    let expected = replies_to(&[sent.clone(), give_record()]);
+    for (nexus, protocol, port) in [(3, 0x20, 0), (16, 0x21, 1), (255, 0xFF, 255)] {
+        let command = Command { nexus, protocol, port, ..sent.clone() };
+        assert_eq!(replies_to(&[command, give_record()]), expected);
+    }
+}
+
+#[test]
+fn a_batch_runs_from_the_record_that_the_stream_has() {
+    let write = |nexus| batch(batch_data(&[[3, nexus, 0, 1, 0, 0, 0, 0]], &[]), 4);
+    let given = replies_to(&[security_out(3, k()), event(5), write(3), write(3), write(4)]);
+    let expected = [
+        &[0; 12][..],
+        &[0, 0, 0, 0, 0, 4, 4, 6, 0x2A, 0x12],
+        &[0, 0, 0, 0, 0, 4, 11, 7, 0x2A, 0x13],
+        &[0, 0, 0, 0, 0, 4, 0, 0, 0, 0],
+    ];
+    assert_eq!(given, expected.concat());
+    let mut bytes = give(&mixed());
+    bytes[5] = 7;
+    let given = replies_to(&[load_bytes(bytes.clone()), write(3), batch(vec![0, 0], 1), give_record()]);
+    assert_eq!(given[6..23], [0, 0, 0, 0, 0, 4, 1, 0, 0, 0, 0, 0, 0, 0, 0, 1, 0xA5]);
+    assert_eq!(given[29..], bytes);
+}
+
+#[test]
+fn part_batches_are_ignored() {
+    let mut bytes = Vec::new();
+    batch(batch_data(&[OUT_K], &k()), 4).give(&mut bytes);
+    for cut in 0..bytes.len() {
+        assert_eq!(replies(&bytes[..cut]), []);
+    }
+    assert_eq!(replies(&bytes).len(), 10);
 }
 
 #[test]

@@ -6,7 +6,7 @@ use denote.Ref.{now}
 use lib.ListN.{length}
 use Rattle.device_16.specs.Model.{state}
 use Rattle.command.specs.Requests.{lentMost}
-use Rattle.stream_16.specs.Stream.{lentFrom}
+use Rattle.stream_16.specs.Stream.{inFrom, replyMost}
 use Rattle.stream_16.proofs.Giving.{in-given}
 use Rattle.stream_16.proofs.give_in.Statement.{statement}
 use Rattle.stream_16.proofs.give_in.Tie as tie
@@ -34,7 +34,7 @@ give-in-spec =
     let start = lent .before .before .before in
     let a = start .args in
     let e = lent .security-in .ensures in
-    let fits : lentFrom + a .size ≤ length (now (a .buffer)) = search needs in
+    let long : replyMost ≤ length (now (a .buffer)) = search needs in
     let small : a .size ≤ lentMost = search needs in
-    let same : lentFrom + a .size - lentFrom ≡ a .size = omega arith in
-    in-given (state (a .d)) (a .command) (a .size) (lentFrom + a .size - lentFrom) (now (a .buffer)) fits small same (e .0) (e .1) (told .two .ensures) (put .put .ensures) (c .reply-with .ensures)))
+    let same : inFrom + a .size - inFrom ≡ a .size = omega arith in
+    in-given (state (a .d)) (a .command) (a .size) (inFrom + a .size - inFrom) (now (a .buffer)) long small same (e .0) (e .1) (told .two .ensures) (put .put .ensures) (c .reply-with .ensures)))

@@ -89,45 +89,50 @@ impl RandomRecordings {
         };
         let commands = (self.enrich)(self.sessions.commands(count, recorded), &mut self.numbers);
         let mut recording = recording_of(&commands);
-        if self.numbers.percent(30) {
-            self.surround_pages(&mut recording);
-        }
-        if self.numbers.percent(20) {
-            self.move_page(&mut recording);
-        }
+        place_pages(&mut recording, &mut self.numbers);
         recording
-    }
-
-    /// Puts bytes that no page uses before and after the pages.
-    fn surround_pages(&mut self, recording: &mut Recording) {
-        let most = if self.numbers.percent(15) { 20_000 } else { 40 };
-        let (before, after) = (self.numbers.below(most), self.numbers.below(most));
-        let (before, after) = (self.numbers.bytes(before), self.numbers.bytes(after));
-        for event in recording.events.iter_mut().filter(|event| event.kind == kind::OUT) {
-            event.page_offset += before.len() as u16;
-        }
-        recording.page_bytes = [before, std::mem::take(&mut recording.page_bytes), after].concat();
-    }
-
-    /// Moves an event's page to anywhere within the page bytes, so that it overlaps others.
-    fn move_page(&mut self, recording: &mut Recording) {
-        let limit = recording.page_bytes.len() + 1;
-        let mut outs = recording.events.iter_mut().filter(|event| event.kind == kind::OUT);
-        let Some(event) = outs.next_back() else { return };
-        let start = self.numbers.below(limit);
-        let length = self.numbers.below((limit - start).min(80));
-        (event.page_offset, event.page_length) = (start as u16, length as u16);
     }
 }
 
+/// Puts the pages of some recordings elsewhere.
+pub fn place_pages(recording: &mut Recording, numbers: &mut Numbers) {
+    if numbers.percent(30) {
+        surround_pages(recording, numbers);
+    }
+    if numbers.percent(20) {
+        move_page(recording, numbers);
+    }
+}
+
+/// Puts bytes that no page uses before and after the pages.
+fn surround_pages(recording: &mut Recording, numbers: &mut Numbers) {
+    let most = if numbers.percent(15) { 20_000 } else { 40 };
+    let (before, after) = (numbers.below(most), numbers.below(most));
+    let (before, after) = (numbers.bytes(before), numbers.bytes(after));
+    for event in recording.events.iter_mut().filter(|event| event.kind == kind::OUT) {
+        event.page_offset += before.len() as u16;
+    }
+    recording.page_bytes = [before, std::mem::take(&mut recording.page_bytes), after].concat();
+}
+
+/// Moves an event's page to anywhere within the page bytes, so that it overlaps others.
+fn move_page(recording: &mut Recording, numbers: &mut Numbers) {
+    let limit = recording.page_bytes.len() + 1;
+    let mut outs = recording.events.iter_mut().filter(|event| event.kind == kind::OUT);
+    let Some(event) = outs.next_back() else { return };
+    let start = numbers.below(limit);
+    let length = numbers.below((limit - start).min(80));
+    (event.page_offset, event.page_length) = (start as u16, length as u16);
+}
+
 /// The command as a recording has it: under protocol 20h, without bytes in fields that the kind doesn't have.
-fn recorded(command: Command) -> Option<Command> {
+pub fn recorded(command: Command) -> Option<Command> {
     let command = Command { protocol: PROTOCOL, ..command };
     is_recordable(&command).then_some(command)
 }
 
 /// A small number or any.
-fn small_or_any(numbers: &mut Numbers) -> u16 {
+pub fn small_or_any(numbers: &mut Numbers) -> u16 {
     match numbers.below(4) {
         0 => numbers.below(4) as u16,
         1 => numbers.below(80) as u16,

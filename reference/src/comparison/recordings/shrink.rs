@@ -185,14 +185,17 @@ fn without_page_bytes(file: &[u8], start: usize, count: usize) -> Option<Vec<u8>
     let at = file.len() - page_bytes_in(file) + start;
     let mut file = [file.get(..at)?, file.get(at + count..)?].concat();
     change_header(&mut file, |header| header.total = header.total.wrapping_sub(count as u16));
-    let moved = |position: usize| position - position.saturating_sub(start).min(count);
-    change_outs(&mut file, |event| {
-        let offset = usize::from(event.page_offset);
-        let end = moved(offset + usize::from(event.page_length));
-        event.page_offset = moved(offset) as u16;
-        event.page_length = (end - moved(offset)) as u16;
-    });
+    change_outs(&mut file, |event| cut_from_page(event, start, count));
     Some(file)
+}
+
+/// An event's page where so many page bytes are cut: one that had them is shorter, one after them starts sooner.
+pub fn cut_from_page(event: &mut Event, start: usize, count: usize) {
+    let moved = |position: usize| position - position.saturating_sub(start).min(count);
+    let offset = usize::from(event.page_offset);
+    let end = moved(offset + usize::from(event.page_length));
+    event.page_offset = moved(offset) as u16;
+    event.page_length = (end - moved(offset)) as u16;
 }
 
 /// A file whose pages tell their own lengths.
