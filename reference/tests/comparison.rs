@@ -6,6 +6,8 @@
 
 #[path = "support/failures.rs"]
 mod failures;
+#[path = "support/wrong_batchers.rs"]
+mod wrong_batchers;
 
 use reference::codes::{ceem, decryption, encryption, scope};
 use reference::comparison::session;
@@ -15,6 +17,7 @@ use reference::stream::{kind, Command, Drive, Reply, LENT_FILL};
 use std::io::{self, Write};
 use std::process::{Command as Program, ExitCode};
 use std::thread;
+use wrong_batchers::BATCH_FAULTS;
 
 /// What a fault sees and spoils: the command, the record before it, the reply, and the record after it.
 struct Moment<'parts> {
@@ -461,7 +464,8 @@ fn failures() -> Vec<String> {
     let this = std::env::current_exe().expect("this program has a path");
     let this = this.to_string_lossy();
     let faults = FAULTS.iter().map(|fault| (fault, &["--calls", "20000"][..]));
-    let of_requests = READ_FAULTS.iter().chain(&CEEM_FAULTS).map(|fault| (fault, &["--directed"][..]));
+    let of_requests = READ_FAULTS.iter().chain(&CEEM_FAULTS).chain(&BATCH_FAULTS);
+    let of_requests = of_requests.map(|fault| (fault, &["--directed"][..]));
     let faults: Vec<_> = faults.chain(of_requests).collect();
     let (some, others) = faults.split_at(faults.len() / 2);
     let find = |faults: &[(&Fault, &[&str])]| -> Vec<String> {
@@ -495,7 +499,7 @@ fn failure_of((name, _, longest): &Fault, sessions: &[&str], this: &str) -> Opti
 fn main() -> ExitCode {
     let arguments: Vec<String> = std::env::args().collect();
     if let Some(at) = arguments.iter().position(|argument| argument == "--fault") {
-        let mut faults = FAULTS.iter().chain(&READ_FAULTS).chain(&CEEM_FAULTS);
+        let mut faults = FAULTS.iter().chain(&READ_FAULTS).chain(&CEEM_FAULTS).chain(&BATCH_FAULTS);
         let fault = faults.find(|(name, _, _)| *name == arguments[at + 1]);
         let (_, fault, _) = fault.expect("the fault has a name");
         return if faulty_drive(*fault).is_ok() { ExitCode::SUCCESS } else { ExitCode::FAILURE };

@@ -46,4 +46,5 @@ pub fn sessions(sink: &mut Sink) {
     records::sessions(sink);
     page_rules::sessions(sink);
     ceem::sessions(sink);
+    batches::long_sessions(sink);
 }

@@ -24,6 +24,11 @@ pub fn sessions(sink: &mut Sink) {
     limits::sessions(sink);
     records::sessions(sink);
     kinds::sessions(sink);
+}
+
+/// Batches beside the same calls one by one, and other sessions in batches. They are long: what a shorter session shows
+/// is to be found there.
+pub fn long_sessions(sink: &mut Sink) {
     one_by_one::sessions(sink);
     sessions::sessions(sink);
 }
