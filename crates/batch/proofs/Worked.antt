@@ -169,6 +169,10 @@ rules-table =
     ∷ refuses fresh (times 65 powers ++ take 1 powers) [] 4096 18
     ∷ []
 
-pub worked : T (batched (formed-table ++ unformed-table ++ mended-table ++ rules-table))
-unfolding batched formed-table unformed-table mended-table rules-table joined parts formOf entryOf sound call eventOf askedOf answersFrom sameRecord runFrom checks answer effectBy actionsOf changedBy carriedOut changes flagged cleared act acts releases ownPlace room pageActions senderAfter supplemented taken setGood nexusGood ownerIsLocal wellFormed ownedPlace selected powerOn publicPage supplementalPage setPage checked openRules modeRules plainRules keyRules setRules matchRules endRules supplementalRules listOf descriptorRules listed underMode
-worked = tt
+pub limits-worked : T (batched (formed-table ++ unformed-table ++ mended-table))
+unfolding batched formed-table unformed-table mended-table joined parts formOf entryOf sound call eventOf askedOf answersFrom sameRecord runFrom checks answer effectBy actionsOf changedBy carriedOut changes flagged cleared act acts releases ownPlace room pageActions senderAfter supplemented taken setGood nexusGood ownerIsLocal wellFormed ownedPlace selected powerOn publicPage supplementalPage setPage checked openRules modeRules plainRules keyRules setRules matchRules endRules supplementalRules listOf descriptorRules listed underMode
+limits-worked = tt
+
+pub rules-worked : T (batched rules-table)
+unfolding batched rules-table joined parts formOf entryOf sound call eventOf askedOf answersFrom sameRecord runFrom checks answer effectBy actionsOf changedBy carriedOut changes flagged cleared act acts releases ownPlace room pageActions senderAfter supplemented taken setGood nexusGood ownerIsLocal wellFormed ownedPlace selected powerOn publicPage supplementalPage setPage checked openRules modeRules plainRules keyRules setRules matchRules endRules supplementalRules listOf descriptorRules listed underMode
+rules-worked = tt

@@ -110,10 +110,15 @@ pub use Rattle.recording_code.proofs.Settled.{header-of-settles as recording-co
 pub use Rattle.recording_code.proofs.Settled.{events-of-settles as recording-code-events-of-settles}
 pub use Rattle.recording_code.proofs.Settled.{pages-of-settles as recording-code-pages-of-settles}
 pub use Rattle.recording_code.proofs.Settled.{is-sound-file-settles as recording-code-is-sound-file-settles}
+-- crate batch_code
+pub use Rattle.batch_code.proofs.Settled.{verdict-of-settles as batch-code-verdict-of-settles}
 -- crate command_code
 pub use Rattle.command_code.proofs.Settled.{request-of-settles as command-code-request-of-settles}
 pub use Rattle.command_code.proofs.Settled.{has-data-settles as command-code-has-data-settles}
 pub use Rattle.command_code.proofs.Settled.{order-of-settles as command-code-order-of-settles}
+pub use Rattle.command_code.proofs.Settled.{holds-events-settles as command-code-holds-events-settles}
+pub use Rattle.command_code.proofs.Settled.{batch-events-settles as command-code-batch-events-settles}
+pub use Rattle.command_code.proofs.Settled.{batch-pages-settles as command-code-batch-pages-settles}
 pub use Rattle.command_code.proofs.Settled.{reply-head-settles as command-code-reply-head-settles}
 pub use Rattle.command_code.proofs.Settled.{values-head-settles as command-code-values-head-settles}
 -- crate claim_code

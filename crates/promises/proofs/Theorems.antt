@@ -56,8 +56,8 @@ pub use Rattle.drive.proofs.CeemTable.{ceem, ceem-proved}
 pub use Rattle.drive.proofs.Same.{same-record}
 -- A reply's head has the bytes that stand before the data, and tells its number, its sense and how many bytes of data follow.
 pub use Rattle.command.proofs.Replies.{head-size, head-number, head-sense, head-length}
--- A kind that has data is the kind of a known command, so data are never read for an unknown one.
-pub use Rattle.command.proofs.Requests.{out-order, status-order, take-order}
+-- A kind that has data is the kind of a known command, but for a batch whose buffer is too large.
+pub use Rattle.command.proofs.Requests.{out-order, batch-order, status-order, take-order}
 -- The stored session of the stream, further commands and records taken and given: what is replied is what is printed there.
 pub use Rattle.command.proofs.Worked.{session-proved, further-proved as stream-further-proved, records-proved}
 -- Every call of a well-formed record leaves a well-formed record; power-on gives one; so since power-on answer 1 is never due.
@@ -145,3 +145,20 @@ pub use Rattle.claim.proofs.Long.{text-few}
 pub use Rattle.claim.proofs.Parts.{cut-row, cut-totals, cut-amount, cut-claims, parts-add-up}
 -- Claims computed: the verdict, and the text to the character.
 pub use Rattle.claim.proofs.Worked.{table as claim-table, worked as claims-proved}
+-- Document 02, request 5: each of a batch's verdicts 18, 22 and 0 is due where the request says; of a refused batch record and buffer stay.
+pub use Rattle.batch.proofs.Due.{batch-due}
+pub use Rattle.batch.proofs.Batched.{batch-refused}
+-- One that is taken equals the same calls made one by one, in record and answers, from any record, and keeps the bytes beyond: as a whole,
+-- event by event, and past the answers.
+pub use Rattle.batch.proofs.Batched.{batch-one-by-one, batch-answer-at, batch-beyond}
+-- An empty batch changes nothing.
+pub use Rattle.batch.proofs.Batched.{empty-batch}
+-- Two batches in a row equal one, where 64 and the buffer allow it: with the same page bytes, and wherever the one's calls are theirs.
+pub use Rattle.batch.proofs.InARow.{batches-join, batches-in-a-row}
+-- A batch equals the file made of it, sound or not.
+pub use Rattle.batch.proofs.Replays.{batch-as-file}
+-- From a record that isn't well formed each event answers 1 until a power-on, and from there on it goes as since power-on.
+pub use Rattle.batch.proofs.Unformed.{unformed-batch, mended-batch}
+-- Batches computed: 0, 1, 63, 64 and 65 events with buffers a byte short, just long enough and a byte longer, from a record that is well
+-- formed and from one a bit away; and each rule.
+pub use Rattle.batch.proofs.Worked.{formed-table, unformed-table, mended-table, rules-table, limits-worked, rules-worked}

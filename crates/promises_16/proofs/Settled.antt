@@ -44,6 +44,8 @@ pub use Rattle.calls_16.proofs.Settled.{perform-settles as calls-16-perform-set
 -- crate session_16
 pub use Rattle.session_16.proofs.Settled.{run-settles as session-16-run-settles}
 pub use Rattle.session_16.proofs.Settled.{replay-settles as session-16-replay-settles}
+-- crate batch_16
+pub use Rattle.batch_16.proofs.Settled.{batch-settles as batch-16-batch-settles}
 -- crate claim_16
 pub use Rattle.claim_16.proofs.Settled.{tally-settles as claim-16-tally-settles}
 pub use Rattle.claim_16.proofs.Settled.{claim-settles as claim-16-claim-settles}

@@ -1,11 +1,12 @@
 -- This model's instance of what is proved once over the sizes.
 -- Assumes nothing.
-use Prim.Native.Nat.{ℕ, _≤_, _<_, _^_}
+use Prim.Native.Nat.{ℕ, _+_, _*_, _/_, _%_, _≤_, _<_, _^_}
 use mathlib.Core.Bool.{Bool, true}
 use mathlib.Core.List.{List, [], _∷_, _++_}
 use mathlib.Core.Path.{_≡_, refl, sym, ap, subst, _∙_}
 use lib.Dec.{lit<, lit≤}
-use lib.ListN.{length}
+use lib.ListN.{length, drop}
+use Rattle.wire.specs.Parts.{joined}
 use Rattle.wire.proofs.Bytes.{Below}
 use Rattle.page.specs.Check.{checked}
 use Rattle.device.specs.Record.{State, nexusAt, powerOn}
@@ -14,7 +15,7 @@ use Rattle.device.specs.WellFormed.{wellFormed}
 use Rattle.drive.specs.Calls.{Call, write}
 use Rattle.due.specs.Due.{Exactly}
 use Rattle.drive.specs.declared.Decision.the-variants.{Encrypted}
-use Rattle.drive.specs.Checks.{pageChecked}
+use Rattle.drive.specs.Checks.{pageChecked, answer}
 use Rattle.drive.specs.Runs.{runFrom, run}
 use Rattle.kept.proofs.Runs.{since-power-on}
 use Rattle.history.specs.History.{isHeard, isStopped, LatestPage, leftBy, ranFrom, touched, drew}
@@ -23,16 +24,22 @@ use Rattle.sizes_16.specs.Sizes.{nexusCount, placeCount}
 use Rattle.device_16.specs.Model.{state, device}
 use Rattle.device_16.specs.declared.Device.{Device}
 use Rattle.drive_16.specs.Outcomes.{outcomeBy, outcome, poweredOn}
-use Rattle.recording.specs.Files.{soundFile, fileVerdict, eventBytes, callsOf}
+use Rattle.recording.specs.Entries.{calls}
+use Rattle.recording.specs.Files.{soundFile, fileVerdict, eventBytes, callsOf, fileOf}
+use Rattle.session.specs.Answers.{fourOf, answersFrom, answerBytes}
 use Rattle.session.proofs.Replayed.{file-taken}
 use Rattle.session_16.specs.Sessions.{start, Gives}
 use Rattle.session_16.specs.declared.Ran.{Ran}
+use Rattle.batch.specs.Due.{Room, SoundBatch}
+use Rattle.batch.proofs.Batched.{batch-one-by-one}
+use Rattle.batch.proofs.Replays.{batch-as-file}
+use Rattle.batch_16.specs.Batches.{Batched}
 use Rattle.claim.specs.Rows.{rowOfNexus, countsAs}
 use Rattle.claim.specs.Files.{rateMost, claimText}
 use Rattle.claim.specs.Claimable.{Claimable}
 use Rattle.claim.proofs.Exactly.{written, claimed-exactly}
 use Rattle.claim.proofs.Long.{text-few}
-use Rattle.promises_16.specs.Runs.{leaves, sincePowerOn}
+use Rattle.promises_16.specs.Runs.{leaves, tells, sincePowerOn}
 -- What this model writes as a record's bytes is loaded as the same record; bytes that are loaded, written again, are the same bytes; a
 -- load takes bytes exactly if their count is right and each yes/no byte is 0 or 1; a refused one carries nothing.
 pub use Rattle.record_16.proofs.RoundTrip.{loaded-of-record, written-of-loaded, loaded-is-formed, refused-load}
@@ -44,6 +51,12 @@ pub leaves-run : (d : Device) (calls : List Call) → state (leaves d calls) ≡
 unfolding leaves runFrom outcomeBy
 leaves-run d [] = refl
 leaves-run d (call ∷ later) = leaves-run (outcome (state d) call .device) later
+
+-- and the answers are those over lists
+pub tells-answers : (d : Device) (calls : List Call) → tells d calls ≡ answerBytes (state d) calls
+unfolding tells answersFrom joined outcomeBy
+tells-answers d [] = refl
+tells-answers d (call ∷ later) = ap (λ (l : List ℕ). fourOf (answer (state d) call) ++ l) (tells-answers (outcome (state d) call .device) later)
 
 -- so since power-on
 pub runs-so : (calls : List Call) → state (sincePowerOn calls) ≡ run nexusCount placeCount calls
@@ -82,3 +95,26 @@ claimed-here = claimed-exactly nexusCount placeCount (lit< tt) (lit< tt) (lit≤
 -- the text of every claim that is made has room in TEXT_MOST bytes
 pub text-here : (rate : ℕ) (file : List ℕ) → length (eventBytes file) < 65536 → rate ≤ rateMost → length (claimText nexusCount placeCount rate file) ≤ 435
 text-here rate file h r = text-few nexusCount placeCount rate file (lit< tt) h r
+
+-- A batch that is taken, as its promise states it, from any record of this model: the device that its events leave, each sent as a call by
+-- itself, their answers, and the bytes beyond as they were.
+pub record SentOneByOne (d : Device) (events pages buffer : List ℕ) (r : Ran) (after : List ℕ) : Type 0 where
+  pub left : r .device ≡ leaves d (calls events pages)
+  pub told : after ≡ tells d (calls events pages) ++ drop (4 * (length events / 8)) buffer
+
+pub batch-as-calls : (d : Device) (events pages buffer : List ℕ) (r : Ran) (after : List ℕ) → Batched (state d) events pages buffer r after
+    → Room events (length buffer) → SoundBatch events pages → SentOneByOne d events pages buffer r after
+batch-as-calls d events pages buffer r after b room sound =
+    let same = batch-one-by-one (state d) events pages buffer room sound in
+    record {
+      left = ap (λ (x : Ran). x .device) (b .ran) ∙ ap device (same .left ∙ sym (leaves-run d (calls events pages)));
+      told = b .told ∙ same .told ∙ ap (λ (l : List ℕ). l ++ drop (4 * (length events / 8)) buffer) (sym (tells-answers d (calls events pages)));
+    }
+
+-- A batch from power-on, and replay of the file made of it, as both are promised: the same verdict, record and bytes, sound or not.
+pub batch-as-replay : (events pages buffer : List ℕ) {r x : Ran} {after end : List ℕ} → Batched start events pages buffer r after
+    → Gives (fileVerdict (fileOf events pages)) start (callsOf (fileOf events pages)) buffer x end
+    → length events % 8 ≡ 0 → Room events (length buffer) → 8 + length events + length pages < 65536 → (r ≡ x) × (after ≡ end)
+batch-as-replay events pages buffer b g whole room small =
+    let same = batch-as-file start events pages buffer whole room small in
+    (b .ran ∙ (λ i. record { device = device (same .left i); verdict = same .verdict i }) ∙ sym (g .ran), b .told ∙ same .told ∙ sym (g .told))
