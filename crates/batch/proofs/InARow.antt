@@ -92,7 +92,7 @@ module _ (s : State) (events pages first firstPages later laterPages buffer : Li
 -- ---- with the same page bytes
 
 -- the events of two sound batches are sound together
-joined-sound : (first later pages : List ℕ) → SoundBatch first pages → SoundBatch later pages → SoundBatch (first ++ later) pages
+pub joined-sound : (first later pages : List ℕ) → SoundBatch first pages → SoundBatch later pages → SoundBatch (first ++ later) pages
 joined-sound first later pages one two =
     let count = length pages in
     let split : allSound count (entries (first ++ later)) ≡ (allSound count (entries first) && allSound count (entries later)) =

@@ -3,6 +3,7 @@
 use Prim.Native.Nat.{ℕ, zero, suc, _+_, _-_, _*_}
 use mathlib.Core.Bool.{true, false}
 use mathlib.Core.List.{List, [], _∷_, _++_}
+use mathlib.Core.Path.{_≡_, refl}
 use lib.Dec.{T}
 use lib.ListN.{take, replicate}
 use Rattle.wire.specs.Parts.{joined, parts}
@@ -31,6 +32,7 @@ use Rattle.recording.specs.Forms.{formOf}
 use Rattle.recording.specs.Entries.{entryOf, sound, call}
 use Rattle.recording.specs.Claims.{event}
 use Rattle.session.specs.Answers.{answersFrom}
+use Rattle.batch.specs.Joining.{moved}
 use Rattle.batch.specs.Claims.{Batch, takes, refuses, batched}
 
 -- four bytes of an answer
@@ -176,3 +178,8 @@ limits-worked = tt
 pub rules-worked : T (batched rules-table)
 unfolding batched rules-table joined parts formOf entryOf sound call eventOf askedOf answersFrom sameRecord runFrom checks answer effectBy actionsOf changedBy carriedOut changes flagged cleared act acts releases ownPlace room pageActions senderAfter supplemented taken setGood nexusGood ownerIsLocal wellFormed ownedPlace selected powerOn publicPage supplementalPage setPage checked openRules modeRules plainRules keyRules setRules matchRules endRules supplementalRules listOf descriptorRules listed underMode
 rules-worked = tt
+
+-- events joined to a batch with 52 page bytes: the page of OUT stands 52 bytes further on, and every other field as it was
+pub moved-computed : moved 52 (event 2 4 0x10 1 51 ++ event 3 4 1 0 0 ++ event 1 9 0x20 0 0) ≡ event 2 4 0x10 53 51 ++ event 3 4 1 0 0 ++ event 1 9 0x20 0 0
+unfolding joined parts formOf entryOf
+moved-computed = refl

@@ -44,7 +44,11 @@ pub fn has_data(kind: u8) -> bool
 fn lent_to(request: Request) -> u16
     ensures { λ r. ⌜ r ≡ lentTo request ⌝ }
 {
-    if request.kind == IN { request.length } else { 0 }
+    if request.kind == IN {
+        request.length
+    } else {
+        0
+    }
 }
 
 // A call of the drive's, where its buffer isn't too large and a write's argument is a flag.

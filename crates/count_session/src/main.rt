@@ -1,9 +1,14 @@
-// Plays a recording in one of three ways, for counting its instructions (bench/run). Input: the way, then the recording. 0 reads its
-// events alone, 1 makes each call by itself, 2 replays it. Output: the record at the end.
+// Plays a recording in one of four ways, for counting its instructions (bench/run). Input: the way, then the recording. 0 reads its
+// events alone, 1 makes each call by itself, 2 replays it, 3 sends it in batches of 64. Output: the record at the end.
+use batch::EVENTS_MOST;
 use calls::Asked;
 use device_16::Device;
 use recording::ENTRY_SIZE;
+use session::ANSWER_SIZE;
 use session::ANSWERS_MOST;
+
+// The bytes of the events of a full batch.
+const BATCH_SIZE: usize = ENTRY_SIZE * EVENTS_MOST;
 
 // One call, with its check 1.
 fn call(d: Device, asked: Asked, page: &[u8]) -> Device {
@@ -70,6 +75,24 @@ fn one_by_one(start: Device, events: &[u8], pages: &[u8]) -> Device {
     d
 }
 
+// Sends one batch.
+fn send(d: Device, events: &[u8], pages: &[u8]) -> Device {
+    let mut answers = [0u8; ANSWER_SIZE * EVENTS_MOST];
+    let ran = batch_16::batch(d, events, pages, &mut answers);
+    ran.device
+}
+
+// Sends the events in batches of 64, the last of what is left, each with all page bytes.
+fn in_batches(start: Device, events: &[u8], pages: &[u8]) -> Device {
+    let mut d = start;
+    let mut rest = events;
+    while BATCH_SIZE <= rest.len() {
+        d = send(d, &rest[0..BATCH_SIZE], pages);
+        rest = &rest[BATCH_SIZE..];
+    }
+    send(d, rest, pages)
+}
+
 fn play(way: u8, file: &[u8]) -> Device {
     let start = device_16::power_on();
     let events = recording_code::events_of(file);
@@ -81,6 +104,9 @@ fn play(way: u8, file: &[u8]) -> Device {
         let mut answers = [0u8; ANSWERS_MOST];
         let ran = session_16::replay(file, &mut answers);
         return ran.device;
+    }
+    if way == 3 {
+        return in_batches(start, events, pages);
     }
     let seen = [read_alone(events, pages)];
     io::write_all(2, &seen);

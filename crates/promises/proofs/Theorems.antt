@@ -153,12 +153,14 @@ pub use Rattle.batch.proofs.Batched.{batch-refused}
 pub use Rattle.batch.proofs.Batched.{batch-one-by-one, batch-answer-at, batch-beyond}
 -- An empty batch changes nothing.
 pub use Rattle.batch.proofs.Batched.{empty-batch}
--- Two batches in a row equal one, where 64 and the buffer allow it: with the same page bytes, and wherever the one's calls are theirs.
+-- Two batches in a row equal one, where 64 and the buffer allow it: with the same page bytes; each with its own, one after the other, and
+-- the pages of the later events as much further on; and wherever the one's calls are theirs.
 pub use Rattle.batch.proofs.InARow.{batches-join, batches-in-a-row}
+pub use Rattle.batch.proofs.Joined.{batches-moved}
 -- A batch equals the file made of it, sound or not.
 pub use Rattle.batch.proofs.Replays.{batch-as-file}
 -- From a record that isn't well formed each event answers 1 until a power-on, and from there on it goes as since power-on.
 pub use Rattle.batch.proofs.Unformed.{unformed-batch, mended-batch}
 -- Batches computed: 0, 1, 63, 64 and 65 events with buffers a byte short, just long enough and a byte longer, from a record that is well
 -- formed and from one a bit away; and each rule.
-pub use Rattle.batch.proofs.Worked.{formed-table, unformed-table, mended-table, rules-table, limits-worked, rules-worked}
+pub use Rattle.batch.proofs.Worked.{formed-table, unformed-table, mended-table, rules-table, limits-worked, rules-worked, moved-computed}

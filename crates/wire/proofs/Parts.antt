@@ -3,7 +3,7 @@
 use Prim.Native.Nat.{ℕ, zero, suc, _+_, _*_, _≤_, _<_}
 use mathlib.Core.Path.{_≡_, refl, sym, ap, ap₂, _∙_}
 use mathlib.Core.Bool.{Bool, true, _&&_}
-use mathlib.Core.List.{List, [], _∷_, _++_, append-assoc}
+use mathlib.Core.List.{List, [], _∷_, _++_, map, append-assoc}
 use native.Mathlib.Nat.{zero-mul, suc-mul, add-zero, zero-add}
 use native.Mathlib.Numerals.{add-one}
 use native.Mathlib.Omega.{arith}
@@ -149,3 +149,25 @@ parts-pass write size test (x ∷ xs) h rest =
     let split : write x ++ joined write xs ++ rest ≡ write x ++ more = append-assoc (write x) (joined write xs) rest in
     let after : drop size (write x ++ more) ≡ more = drop-at (write x) more size (h .0 .0) in
     rw (split, after) (all-cons (λ (ok : Bool). ok) (test (write x ++ more)) (parts test size (length xs) more) ∙ both _ _ (h .0 .1 more) (parts-pass write size test xs (h .1) rest))
+
+-- ---- of each element
+
+-- both of two
+pub each-both : {A : Type 0} (P Q : A → Type 0) (xs : List A) → Each P xs → Each Q xs → Each (λ x. P x × Q x) xs
+each-both P Q [] p q = tt
+each-both P Q (x ∷ xs) p q = ((p .0, q .0), each-both P Q xs (p .1) (q .1))
+
+-- what follows from what it has
+pub each-same : {A : Type 0} {P R : A → Type 0} → ((x : A) → P x → R x) → (xs : List A) → Each P xs → Each R xs
+each-same f [] p = tt
+each-same f (x ∷ xs) p = (f x (p .0), each-same f xs (p .1))
+
+-- what is made of it has it
+pub each-map : {A B : Type 0} {P : A → Type 0} (R : B → Type 0) (g : A → B) → ((x : A) → P x → R (g x)) → (xs : List A) → Each P xs → Each R (map g xs)
+each-map R g f [] p = tt
+each-map R g f (x ∷ xs) p = (f x (p .0), each-map R g f xs (p .1))
+
+-- two maps that make the same of it
+pub map-each : {A B : Type 0} {P : A → Type 0} (g h : A → B) → ((x : A) → P x → g x ≡ h x) → (xs : List A) → Each P xs → map g xs ≡ map h xs
+map-each g h f [] p = refl
+map-each g h f (x ∷ xs) p = ap₂ (λ y ys. y ∷ ys) (f x (p .0)) (map-each g h f xs (p .1))

@@ -2,7 +2,7 @@
 
 use super::days::day;
 use crate::comparison::batch_builder::BatchParts;
-use crate::comparison::record_builder::mixed_without_pending;
+use crate::comparison::record_builder::mixed;
 use crate::comparison::session::{event, Sink, Stage};
 use crate::recording::{ANSWER_BYTES, BATCH_EVENTS};
 use crate::stream::{kind, LENT_LIMIT};
@@ -18,7 +18,7 @@ pub fn sessions(sink: &mut Sink) {
 
 /// Every count up to 66 with room for all answers, a byte less and a byte more.
 fn every_count(sink: &mut Sink) {
-    let mut stage = Stage::new("batches by count and room", mixed_without_pending(), sink);
+    let mut stage = Stage::new("batches by count and room", mixed(), sink);
     for count in 0..=BATCH_EVENTS + 2 {
         let batch = BatchParts::of(&day(count, count));
         for room in AROUND.into_iter().filter_map(|beyond| batch.room.checked_add_signed(beyond)) {
@@ -31,7 +31,7 @@ fn every_count(sink: &mut Sink) {
 /// Some counts with rooms far from what they take: none, the last answer's bytes in part, much more. A room that is
 /// right but for a multiple of 256 is among them.
 fn other_rooms(sink: &mut Sink) {
-    let mut stage = Stage::new("batches with much and little room", mixed_without_pending(), sink);
+    let mut stage = Stage::new("batches with much and little room", mixed(), sink);
     for count in [1, 2, 3, 16, 32, 62, 63, 64, 65] {
         let batch = BatchParts::of(&day(3 * count, count));
         let just = batch.room;
@@ -48,7 +48,7 @@ fn other_rooms(sink: &mut Sink) {
 /// More events than 64, up to the most that the data can have, with room for all of them, for 64, and for the count's
 /// low part.
 fn many_events(sink: &mut Sink) {
-    let mut stage = Stage::new("batches of too many events", mixed_without_pending(), sink);
+    let mut stage = Stage::new("batches of too many events", mixed(), sink);
     let demount = BatchParts::of(&[event(kind::DEMOUNT)]).events[0];
     let around_powers = [128, 256, 512, 1024, 4096].into_iter().flat_map(|power| power - 1..=power + 1);
     for count in (65..=72).chain([96, 100, 192, 319, 320, 321, 8191]).chain(around_powers) {

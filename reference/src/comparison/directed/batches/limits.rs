@@ -3,15 +3,15 @@
 use super::days::{day, p7};
 use super::wrong_events::out;
 use crate::comparison::batch_builder::BatchParts;
-use crate::comparison::record_builder::{full, mixed_without_pending};
+use crate::comparison::record_builder::{full, mixed};
 use crate::comparison::session::{batch, event, give_record, power_on, write, Session, Sink, Stage};
 use crate::record::Record;
 use crate::stream::{kind, Command, LENT_LIMIT};
 
 pub fn sessions(sink: &mut Sink) {
-    let mut damaged = mixed_without_pending();
+    let mut damaged = mixed();
     damaged.nexuses[5].scope = 3;
-    for record in [Record::power_on(), mixed_without_pending(), damaged] {
+    for record in [Record::power_on(), mixed(), damaged] {
         let mut stage = Stage::new("limits of batches", record, sink);
         short_data(&mut stage);
         ends_of_events(&mut stage);

@@ -4,14 +4,14 @@ use super::wrong_events::out;
 use crate::codes::{decryption, scope};
 use crate::comparison::batch_builder::BatchParts;
 use crate::comparison::page_builder::{set_length, SetPage};
-use crate::comparison::record_builder::{full, mixed_without_pending};
+use crate::comparison::record_builder::{full, mixed};
 use crate::comparison::session::{Sink, Stage};
 use crate::record::Record;
 use crate::recording::Event;
 use crate::stream::kind;
 
 pub fn sessions(sink: &mut Sink) {
-    for record in [Record::power_on(), mixed_without_pending(), full([0, 1, 2, 3])] {
+    for record in [Record::power_on(), mixed(), full([0, 1, 2, 3])] {
         let mut stage = Stage::new("pages in batches", record, sink);
         let batches = [one_after_another(), odd(), within_and_past(), in_other_bytes(), largest()].concat();
         for batch in batches {

@@ -2,7 +2,7 @@
 
 use super::days::day;
 use crate::comparison::batch_builder::BatchParts;
-use crate::comparison::record_builder::mixed_without_pending;
+use crate::comparison::record_builder::mixed;
 use crate::comparison::session::{event, Sink, Stage};
 use crate::recording::ANSWER_BYTES;
 use crate::stream::{kind, LENT_LIMIT};
@@ -19,7 +19,7 @@ pub fn sessions(sink: &mut Sink) {
 /// One to seven bytes beside none, a few, 63, 64 and 65 events, with rooms for the whole events, a byte less, for one
 /// event more, and for all that can be.
 fn beside_whole_events(sink: &mut Sink) {
-    let mut stage = Stage::new("part events beside whole ones", mixed_without_pending(), sink);
+    let mut stage = Stage::new("part events beside whole ones", mixed(), sink);
     for count in [0, 1, 2, 12, 31, 62, 63, 64, 65, 66] {
         let batch = BatchParts::of(&day(count + 5, count));
         for bytes in BYTES {
@@ -38,7 +38,7 @@ fn beside_whole_events(sink: &mut Sink) {
 
 /// Page bytes with which the part event would make a whole one, and page bytes that make events by themselves.
 fn going_on_in_page_bytes(sink: &mut Sink) {
-    let mut stage = Stage::new("part events that page bytes go on with", mixed_without_pending(), sink);
+    let mut stage = Stage::new("part events that page bytes go on with", mixed(), sink);
     let demount = BatchParts::of(&[event(kind::DEMOUNT)]).event_bytes();
     for count in [0, 1, 63] {
         let whole = BatchParts::of(&day(count, count));
@@ -58,7 +58,7 @@ fn going_on_in_page_bytes(sink: &mut Sink) {
 
 /// A part event of any bytes is wrong, zeros and FFh too, and after pages.
 fn other_bytes(sink: &mut Sink) {
-    let mut stage = Stage::new("part events of other bytes", mixed_without_pending(), sink);
+    let mut stage = Stage::new("part events of other bytes", mixed(), sink);
     for count in [0, 1, 20, 64] {
         let whole = BatchParts::of(&day(count, count));
         for bytes in BYTES {

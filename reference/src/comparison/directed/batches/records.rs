@@ -7,7 +7,7 @@ use crate::comparison::directed::records::is_bulk;
 use crate::comparison::page_builder::SetPage;
 use crate::comparison::record_builder::{full, mixed};
 use crate::comparison::session::{
-    event, load_bytes, power_on, read, security_out, vendor_release, write, Session, Sink, Stage,
+    event, load, power_on, read, security_out, vendor_release, write, Session, Sink, Stage,
 };
 use crate::record_bytes;
 use crate::stream::{kind, Command};
@@ -54,8 +54,8 @@ fn each_clause(sink: &mut Sink) {
     }
 }
 
-/// Each bit of codes, owners, lengths and marks turned, and one bit of other bytes, in a record of many kinds of set and
-/// in one with every place used: a batch without power-on, and one with it.
+/// Each bit of codes, owners and lengths turned, and one bit of other bytes, in a record of many kinds of set and in one
+/// with every place used: a batch without power-on, and one with it.
 fn one_bit_away(sink: &mut Sink) {
     let k = security_out(3, SetPage::k().bytes());
     let without = BatchParts::of(&[write(0, true), event(kind::LOGICAL_UNIT_RESET), k]);
@@ -68,8 +68,11 @@ fn one_bit_away(sink: &mut Sink) {
             for bit in bits {
                 let mut turned = bytes.clone();
                 turned[at] ^= 1 << bit;
-                let batch = if (at + bit) % 3 == 0 { &mended } else { &without };
-                commands.extend([load_bytes(turned), batch.command()]);
+                // a mark of 2 and above isn't taken
+                if let Some(record) = record_bytes::load(&turned) {
+                    let batch = if (at + bit) % 3 == 0 { &mended } else { &without };
+                    commands.extend([load(&record), batch.command()]);
+                }
             }
         }
     }

@@ -3,7 +3,7 @@
 use super::days::p7;
 use super::wrong_events::{every, one_of_each, page_bytes};
 use crate::comparison::batch_builder::BatchParts;
-use crate::comparison::record_builder::{full, mixed_without_pending};
+use crate::comparison::record_builder::{full, mixed};
 use crate::comparison::session::{Sink, Stage};
 use crate::record::Record;
 use crate::recording::{Event, BATCH_EVENTS};
@@ -38,7 +38,7 @@ fn with(batch: &BatchParts, position: usize, event: Event) -> BatchParts {
 
 /// Every wrong event alone, before, among and after sound ones.
 fn every_wrong_event(sink: &mut Sink) {
-    let mut stage = Stage::new("a wrong event in a batch", mixed_without_pending(), sink);
+    let mut stage = Stage::new("a wrong event in a batch", mixed(), sink);
     for event in every() {
         stage.call(with(&sound_of(0), 0, event).command());
         for position in [0, 3, 6] {
@@ -64,7 +64,7 @@ fn every_position(sink: &mut Sink) {
 
 /// Two wrong events, and events that are wrong by two fields.
 fn several_wrong_events(sink: &mut Sink) {
-    let mut stage = Stage::new("several wrong events", mixed_without_pending(), sink);
+    let mut stage = Stage::new("several wrong events", mixed(), sink);
     for (_, one) in one_of_each() {
         for (_, other) in one_of_each() {
             let batch = with(&with(&sound(), 6, other), 1, one);
@@ -79,7 +79,7 @@ fn several_wrong_events(sink: &mut Sink) {
 
 /// A wrong event of each rule, or a part event, with too little room, with too many events, and with both.
 fn eighteen_first(sink: &mut Sink) {
-    let mut stage = Stage::new("18 where 22 is due too", mixed_without_pending(), sink);
+    let mut stage = Stage::new("18 where 22 is due too", mixed(), sink);
     for count in [0, 1, 5, 63, 64, 65] {
         let batch = sound_of(count);
         let wrong = one_of_each()
@@ -99,7 +99,7 @@ fn eighteen_first(sink: &mut Sink) {
 
 /// The starting record makes no difference to what is refused.
 fn from_other_records(sink: &mut Sink) {
-    let mut damaged = mixed_without_pending();
+    let mut damaged = mixed();
     damaged.places[1].index = 2;
     for record in [Record::power_on(), damaged] {
         let mut stage = Stage::new("wrong batches from other records", record, sink);
