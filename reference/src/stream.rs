@@ -64,8 +64,8 @@ impl Command {
     /// the data (fewer than 2 bytes of data included)".
     pub fn batch(&self) -> Option<Batch<'_>> {
         let (length, rest) = self.data.split_first_chunk()?;
-        let (events, page_bytes) = rest.split_at_checked(usize::from(u16::from_be_bytes(*length)))?;
-        Some(Batch { events, page_bytes })
+        let length = usize::from(u16::from_be_bytes(*length));
+        Some(Batch { events: rest.get(..length)?, page_bytes: &rest[length..] })
     }
 
     /// The command's bytes.

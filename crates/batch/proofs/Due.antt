@@ -11,7 +11,6 @@ use Rattle.arrays.specs.Base.{if_then_else_}
 use Rattle.arrays.proofs.Base.{cases, both, and-left, and-right, if-true, if-false}
 use Rattle.recording.specs.Verdicts.{verdictNumber}
 use Rattle.recording.specs.Entries.{entries, allSound}
-use Rattle.recording.specs.declared.Verdict.{Verdict}
 use Rattle.recording.specs.declared.Verdict.the-variants.{Done, BatchNotTaken, RecordingWrong}
 use Rattle.recording.proofs.Exactly.{events-told, events-sound}
 use Rattle.batch.specs.Batches.{eventsMost, eventCount, isTooMuch, soundBatch, batchVerdict}

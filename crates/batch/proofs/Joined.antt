@@ -9,7 +9,7 @@ use lib.ListN.{length, take, drop, length-append, length-drop, length-map}
 use lib.Seq.{take-append-le, drop-append-le, drop-append-add}
 use Rattle.arrays.specs.Base.{if_then_else_}
 use Rattle.arrays.proofs.Base.{cases}
-use Rattle.wire.specs.Parts.{joined, parts, Each}
+use Rattle.wire.specs.Parts.{parts, Each}
 use Rattle.wire.proofs.Numbers.{word-two}
 use Rattle.wire.proofs.Bytes.{Below}
 use Rattle.wire.proofs.Parts.{joined-length, GivenBack, read-joined, each-read, each-both, each-same, each-map, map-each}

@@ -11,7 +11,7 @@ use Rattle.arrays.specs.Base.{if_then_else_}
 use Rattle.device.specs.Record.{State}
 use Rattle.drive.specs.Calls.{Call}
 use Rattle.recording.specs.Entries.{entries, allSound, calls}
-use Rattle.recording.specs.Files.{soundFile, fileVerdict, callsOf, fileOf}
+use Rattle.recording.specs.Files.{fileVerdict, callsOf, fileOf}
 use Rattle.recording.specs.declared.Verdict.{Verdict}
 use Rattle.recording.specs.declared.Verdict.the-variants.{Done, RecordingWrong}
 use Rattle.recording.proofs.Made.{made-sound, made-calls}

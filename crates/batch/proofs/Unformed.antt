@@ -5,7 +5,6 @@ use mathlib.Core.Path.{_≡_, refl, sym, ap, ap₂, _∙_}
 use mathlib.Core.Bool.{Bool, true, false, not}
 use mathlib.Core.List.{List, [], _∷_, _++_}
 use lib.ListN.{length, drop, replicate}
-use Rattle.arrays.proofs.Base.{cases}
 use Rattle.wire.specs.Parts.{joined, Each}
 use Rattle.answer.specs.declared.Answer.{Answer}
 use Rattle.answer.specs.declared.Answer.the-variants.{Done, NotWellFormed}
@@ -14,7 +13,7 @@ use Rattle.device.specs.WellFormed.{wellFormed}
 use Rattle.drive.specs.Calls.{Call, powerUp, isPowerUp}
 use Rattle.drive.specs.Checks.{answer, answerWhere, checks}
 use Rattle.drive.specs.Effects.{effectBy}
-use Rattle.drive.specs.After.{changedBy, carriedOut, after}
+use Rattle.drive.specs.After.{changedBy, carriedOut}
 use Rattle.drive.specs.Runs.{runFrom}
 use Rattle.drive.proofs.Effects.{where-agrees}
 use Rattle.recording.specs.Entries.{calls}

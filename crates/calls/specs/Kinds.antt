@@ -4,9 +4,6 @@ use Prim.Native.Nat.{ℕ}
 use mathlib.Core.Bool.{Bool, _&&_}
 use lib.Dec.{leb}
 
-abbrev pub powerOnKind : ℕ
-powerOnKind = 0
-
 abbrev pub inKind : ℕ
 inKind = 1
 

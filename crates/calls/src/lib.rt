@@ -5,9 +5,7 @@ use drive::Block;
 use drive::Command;
 use places::Event;
 
-// The kinds: those of document 02, request 3, which are the stream's too.
-pub const POWER_ON: u8 = 0;
-
+// The kinds: those of document 02, request 3, which are the stream's too. 0 is power-on's.
 pub const IN: u8 = 1;
 
 pub const OUT: u8 = 2;

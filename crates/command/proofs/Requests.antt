@@ -12,7 +12,7 @@ use Rattle.calls.specs.Kinds.{outKind, isCall}
 use Rattle.calls.specs.Asking.{commandOf, askedOf}
 use Rattle.calls.specs.declared.Asked.the-variants.{Out}
 use Rattle.command.specs.Kinds.{batchKind, readStatusKind, takeRecordKind, giveRecordKind}
-use Rattle.command.specs.Requests.{requestAsked, lentMost, lentTo, flagged, callOrder, batchOrder, toolOrder, orderOf, lentSize}
+use Rattle.command.specs.Requests.{lentMost, lentTo, flagKnown, callOrder, batchOrder, toolOrder, orderOf, lentSize}
 use Rattle.command.specs.declared.Request.{Request}
 use Rattle.command.specs.declared.Order.{Order}
 use Rattle.command.specs.declared.Order.the-variants.{Unknown, Ask, Batch, ReadStatus, TakeRecord, GiveRecord}
@@ -24,7 +24,7 @@ either false x y h k = k
 
 call-lends : (r : Request) → lentSize (callOrder r) ≤ lentMost
 unfolding callOrder
-call-lends r = cases (leb (lentTo r) lentMost && flagged r) (λ t. rw t (leb-true _ _ (and-left (leb (lentTo r) lentMost) (flagged r) t))) (λ f. rw f (omega arith))
+call-lends r = cases (leb (lentTo r) lentMost && flagKnown r) (λ t. rw t (leb-true _ _ (and-left (leb (lentTo r) lentMost) (flagKnown r) t))) (λ f. rw f (omega arith))
 
 batch-lends : (r : Request) → lentSize (batchOrder r) ≤ lentMost
 batch-lends r = cases (leb (r .argument) lentMost) (λ t. rw t (leb-true _ _ t)) (λ f. rw f (omega arith))

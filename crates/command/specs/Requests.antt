@@ -37,12 +37,12 @@ abbrev pub lentTo : Request → ℕ
 lentTo r = if eqb (r .kind) inKind then r .length else 0
 
 -- write: "1 where the volume supports algorithm 1, else 0"; "a flag is never guessed"
-abbrev pub flagged : Request → Bool
-flagged r = not (eqb (r .kind) writeKind) || leb (r .argument) flagMost
+abbrev pub flagKnown : Request → Bool
+flagKnown r = not (eqb (r .kind) writeKind) || leb (r .argument) flagMost
 
 -- "an IN with L above 4,096, a write with an argument above 1"
 unfoldable pub callOrder : Request → Order
-callOrder r = if leb (lentTo r) lentMost && flagged r then Ask (requestAsked r) (lentTo r) else Unknown
+callOrder r = if leb (lentTo r) lentMost && flagKnown r then Ask (requestAsked r) (lentTo r) else Unknown
 
 -- batch: its buffer's size is the argument
 abbrev pub batchOrder : Request → Order

@@ -56,8 +56,8 @@ fn call_order(request: Request) -> Order
     ensures { λ r. ⌜ r ≡ callOrder request ⌝ }
 {
     let lent = lent_to(request);
-    let flagged = !(request.kind == WRITE) | (request.argument <= 1);
-    if (lent <= LENT_MOST) & flagged {
+    let flag_known = !(request.kind == WRITE) | (request.argument <= 1);
+    if (lent <= LENT_MOST) & flag_known {
         let asked = calls_code::asked_of(
             request.kind,
             request.nexus,

@@ -1,10 +1,12 @@
-//! Plays P1 to P10 of document 01, "Proved examples", a restoring host of document 02 and the recording of a month on
-//! a drive program and tells in words what happens.
+//! Plays P1 to P10 of document 01, "Proved examples", a restoring host and a bridge board's batch of document 02 and the
+//! recording of a month on a drive program and tells in words what happens.
 //!
 //! `demo ROOT PROGRAM [ARGUMENT ...]`: ROOT is the repository's root, which has the month in examples/.
 
 #![forbid(unsafe_code)]
 
+#[path = "support/bridge_board.rs"]
+mod bridge_board;
 #[path = "support/comments.rs"]
 mod comments;
 #[path = "support/files.rs"]
@@ -52,7 +54,8 @@ fn main() -> ExitCode {
     };
     let mut play = Play { pipe, document: "01", step: "", differing: Vec::new() };
     println!(
-        "The examples of document 01, a restoring host of document 02 and a month of an archive, played on {}.",
+        "The examples of document 01, a restoring host and a bridge board of document 02 and a month of an archive, \
+         played on {}.",
         arguments[1..].join(" ")
     );
     println!(
@@ -62,6 +65,7 @@ fn main() -> ExitCode {
         "the drive keeps their parameters in places: 0 for all nexuses (ALL), 1 to 4 for one nexus (LOCAL)."
     );
     println!("A read tells the drive which kind of block it met and which of the nexus's keys opened it.");
+    println!("A batch is several of these calls, as events, in one.");
     if let Err(trouble) = play.all(&month) {
         println!("{}: can't be played: {trouble}", play.step);
         return ExitCode::FAILURE;
@@ -70,7 +74,7 @@ fn main() -> ExitCode {
         println!("\n{}: not as documents 01 and 02 say", play.differing.join(", "));
         return ExitCode::FAILURE;
     }
-    println!("\nP1 to P10, the restoring host and the month: as documents 01 and 02 say");
+    println!("\nP1 to P10, the restoring host, the bridge board and the month: as documents 01 and 02 say");
     ExitCode::SUCCESS
 }
 
@@ -110,6 +114,7 @@ impl Play {
         self.p9()?;
         self.p10()?;
         self.restoring_host()?;
+        self.bridge_board()?;
         self.month(month)
     }
 

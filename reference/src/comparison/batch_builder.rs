@@ -1,9 +1,10 @@
 //! Batches as the comparison sends them: from commands, and with something changed.
 
+use super::page_builder::set_length;
 use super::recordings::builder::recording_of;
 use super::session;
 use crate::recording::{whole_events, Event, Recording, ANSWER_BYTES};
-use crate::stream::Command;
+use crate::stream::{kind, Command};
 
 /// A batch by its parts, right or wrong.
 #[derive(Clone, PartialEq, Eq, Default, Debug)]
@@ -54,6 +55,17 @@ impl BatchParts {
     /// With so many bytes of a part event: those that a demount begins with.
     pub fn with_left_over(self, bytes: usize) -> Self {
         BatchParts { left_over: [5, 0, 0, 0, 0, 0, 0][..bytes].to_vec(), ..self }
+    }
+
+    /// With pages that tell their own lengths.
+    pub fn with_right_pages(mut self) -> Self {
+        for event in self.events.iter().filter(|event| event.kind == kind::OUT) {
+            let start = usize::from(event.page_offset);
+            if let Some(page) = self.page_bytes.get_mut(start..start + usize::from(event.page_length)) {
+                set_length(page);
+            }
+        }
+        self
     }
 
     /// The events' bytes.

@@ -286,13 +286,19 @@ fn event_answers() -> Vec<(u8, Vec<u8>)> {
         .collect()
 }
 
-/// The cases of the stream: data, lent buffer, ignored fields.
+/// The cases of the stream: data, lent buffer, ignored fields. Each limit is asked of a batch that keeps the others.
 fn of_stream(command: &Command, reply: &Reply) -> Vec<BatchCase> {
     let size = usize::from(command.argument);
-    let mut cases = vec![BatchCase::DataLength(command.data.len()), BatchCase::LentSize(size)];
-    if let Some((length, rest)) = command.data.split_first_chunk() {
-        let beyond = i32::from(u16::from_be_bytes(*length)) - rest.len() as i32;
-        cases.push(BatchCase::EventsEnd { beyond });
+    let mut cases = Vec::new();
+    if command.batch().is_some() {
+        cases.push(BatchCase::LentSize(size));
+    }
+    if size <= LENT_LIMIT {
+        cases.push(BatchCase::DataLength(command.data.len()));
+        cases.extend(command.data.split_first_chunk().map(|(length, rest)| {
+            let beyond = i32::from(u16::from_be_bytes(*length)) - rest.len() as i32;
+            BatchCase::EventsEnd { beyond }
+        }));
     }
     if command.nexus != 0 && command.protocol != 0 && command.port != 0 {
         cases.push(BatchCase::IgnoredFields { number: reply.number });

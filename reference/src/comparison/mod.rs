@@ -1,6 +1,6 @@
 //! The comparison of the library with another drive on a pipe: replies and, after every call, the record.
 
-mod batch_builder;
+pub mod batch_builder;
 mod batch_cases;
 mod ceem_cases;
 pub mod claims;
@@ -29,7 +29,7 @@ use std::thread;
 use std::time::{Duration, Instant};
 
 /// The calls sent before their replies are taken.
-const BATCH: usize = 400;
+const PORTION: usize = 400;
 
 /// How a comparison is run.
 #[derive(Clone, Debug)]
@@ -51,8 +51,8 @@ struct Comparison<'settings> {
     drive: Drive,
     other: OtherDrive,
     reached: Reached,
-    batch: Vec<Session>,
-    calls_in_batch: usize,
+    portion: Vec<Session>,
+    calls_in_portion: usize,
     /// The batches of events that the library answered as it answers their calls one by one.
     equal_to_calls: usize,
     failure: Option<String>,
@@ -73,8 +73,8 @@ pub fn run(settings: &Settings) -> bool {
         drive: Drive::new(),
         other,
         reached: Reached::default(),
-        batch: Vec::new(),
-        calls_in_batch: 0,
+        portion: Vec::new(),
+        calls_in_portion: 0,
         equal_to_calls: 0,
         failure: None,
     };
@@ -94,7 +94,7 @@ pub fn run(settings: &Settings) -> bool {
 
 /// The directed sessions, made beside the comparison. Those that nobody takes any more are let go.
 fn directed_sessions() -> Receiver<Session> {
-    let (sender, sessions) = sync_channel(BATCH);
+    let (sender, sessions) = sync_channel(PORTION);
     thread::spawn(move || {
         directed::sessions(&mut |session| {
             let _ = sender.send(session);
@@ -133,28 +133,28 @@ impl Comparison<'_> {
         }
     }
 
-    /// Takes a session into the batch; after a difference sessions are let go.
+    /// Takes a session into the portion; after a difference sessions are let go.
     fn take(&mut self, session: Session) {
         if self.failure.is_some() {
             return;
         }
-        self.calls_in_batch += session.commands.len();
-        self.batch.push(session);
-        if self.calls_in_batch >= BATCH {
+        self.calls_in_portion += session.commands.len();
+        self.portion.push(session);
+        if self.calls_in_portion >= PORTION {
             self.exchange();
         }
     }
 
-    /// Sends the batch and compares its replies.
+    /// Sends the portion and compares its replies.
     fn exchange(&mut self) {
-        let batch = std::mem::take(&mut self.batch);
-        self.calls_in_batch = 0;
+        let portion = std::mem::take(&mut self.portion);
+        self.calls_in_portion = 0;
         if self.failure.is_some() {
             return;
         }
-        let bytes = batch.iter().map(|session| difference::bytes_of(&session.commands)).collect::<Vec<_>>();
+        let bytes = portion.iter().map(|session| difference::bytes_of(&session.commands)).collect::<Vec<_>>();
         self.other.send(bytes.concat());
-        for session in &batch {
+        for session in &portion {
             let found = difference::compare(
                 &session.commands,
                 &mut self.drive,
@@ -162,16 +162,16 @@ impl Comparison<'_> {
                 Some(&mut self.reached),
             );
             if let Some(difference) = found {
-                self.failure = Some(self.report(session, &batch, difference));
+                self.failure = Some(self.report(session, &portion, difference));
                 return;
             }
         }
     }
 
     /// The report of a difference, its session made short.
-    fn report(&self, session: &Session, batch: &[Session], difference: Difference) -> String {
+    fn report(&self, session: &Session, portion: &[Session], difference: Difference) -> String {
         let Settings { program, patience, .. } = self.settings;
-        let whole: Vec<_> = batch.iter().flat_map(|session| session.commands.clone()).collect();
+        let whole: Vec<_> = portion.iter().flat_map(|session| session.commands.clone()).collect();
         let short = shrink::shrink(program, &session.commands, *patience)
             .or_else(|| shrink::shrink(program, &whole, *patience));
         match short {

@@ -8,8 +8,9 @@ use crate::account::Account;
 use crate::answer_words::{sense_codes, when};
 use crate::hex;
 use crate::names::{name_of, CALLS};
+use crate::record::Record;
 use crate::record_bytes::{field_name, RECORD_BYTES};
-use crate::recording::ANSWER_BYTES;
+use crate::recording::{run_on, ANSWER_BYTES};
 use crate::stream::{kind, Command, Drive, Reply};
 use std::fmt::Write;
 
@@ -201,11 +202,29 @@ pub fn account_text(account: &Account) -> String {
     text
 }
 
+/// The reference's account of the call that differs, over the record before it: of a batch that is taken, event by event.
+fn difference_account_text(command: &Command, before: Record, difference: &Difference) -> String {
+    let taken = command.batch().filter(|_| command.kind == kind::BATCH && difference.reply.number == 0);
+    let Some(batch) = taken.map(|batch| batch.recording()).filter(|batch| !batch.events.is_empty()) else {
+        return account_text(&difference.account);
+    };
+    let (mut text, mut number) = (String::new(), 0);
+    run_on(&mut Drive::with(before), &batch, |moment| {
+        let _ = write!(text, "  event {number}:\n{}", account_text(moment.drive.account()));
+        number += 1;
+    });
+    text
+}
+
 /// The whole report of a difference.
 pub fn difference_text(name: &str, commands: &[Command], difference: &Difference) -> String {
     let mut text = format!("DIFFERENCE in \"{name}\"; short session of {} commands:\n", commands.len());
     let mut drive = Drive::new();
+    let mut account = String::new();
     for (number, command) in commands.iter().enumerate() {
+        if number == difference.command {
+            account = difference_account_text(command, drive.controller().record.clone(), difference);
+        }
         let reply = drive.answer(command);
         let _ = write!(text, "  {number}. {}", command_text(command, &reply));
         if number != difference.command {
@@ -238,11 +257,6 @@ pub fn difference_text(name: &str, commands: &[Command], difference: &Difference
             write!(text, "no record after command {}: {}", difference.command, trouble_text(trouble))
         }
     };
-    let _ = write!(
-        text,
-        "by the reference's account of command {}:\n{}",
-        difference.command,
-        account_text(&difference.account)
-    );
+    let _ = write!(text, "by the reference's account of command {}:\n{account}", difference.command);
     text
 }

@@ -143,7 +143,7 @@ impl Shrinker<'_> {
         }
     }
 
-    /// Cuts runs of a batch's page bytes, long runs first.
+    /// Cuts runs of a batch's page bytes, long runs first; the pages' own lengths made right or as they were.
     fn cut_page_bytes(&mut self, number: usize) {
         let mut run = self.batch(number).map_or(0, |batch| batch.page_bytes.len());
         while run > 0 {
@@ -153,7 +153,8 @@ impl Shrinker<'_> {
                 fewer.page_bytes.drain(start..start + run);
                 let outs = fewer.events.iter_mut().filter(|event| event.kind == kind::OUT);
                 outs.for_each(|event| cut_from_page(event, start, run));
-                if !self.keep_with(number, fewer.command()) {
+                let right = fewer.clone().with_right_pages();
+                if !self.keep_with(number, right.command()) && !self.keep_with(number, fewer.command()) {
                     start += run;
                 }
             }

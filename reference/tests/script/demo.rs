@@ -32,10 +32,28 @@ fn the_month_is_as_its_text_tells() {
     assert_eq!((status, faults.as_str()), (0, ""), "{told}");
     let month: Vec<&str> = told.lines().skip_while(|line| !line.starts_with("The month ")).collect();
     let [_, refused @ .., counts, "", end] = month.as_slice() else { panic!("{month:?}") };
-    assert_eq!(*end, "P1 to P10, the restoring host and the month: as documents 01 and 02 say");
+    assert_eq!(
+        *end,
+        "P1 to P10, the restoring host, the bridge board and the month: as documents 01 and 02 say"
+    );
     assert_eq!(refused[0], "    5  in nexus 3 page 0013h -> 6 page not supported (5/24/00)");
     assert!(refused.iter().all(|line| line.contains(" -> ") && !line.contains(" -> 0 ")));
     assert!(counts.contains(&format!(", {} refused; writes: ", refused.len())), "{counts}");
+}
+
+#[test]
+fn a_bridge_boards_batch_is_told_event_by_event() {
+    let (_, told, _) = demo(Path::new(ROOT));
+    let scenes: Vec<&str> = told.split("\n\n").filter(|scene| scene.starts_with('B')).collect();
+    let [batch, wrong] = scenes.as_slice() else { panic!("{scenes:?}") };
+    let events = batch.lines().filter(|line| line.contains(" -> ") && line.starts_with("    "));
+    let answers: Vec<&str> =
+        events.filter_map(|line| line.rsplit_once(" -> ")).map(|(_, answer)| answer).collect();
+    let expected = ["0 done", "0 done", "12 ", "0 done", "4 ", "11 "];
+    assert_eq!(answers.len(), expected.len(), "{batch}");
+    assert!(answers.iter().zip(expected).all(|(answer, begins)| answer.starts_with(begins)), "{batch}");
+    assert!(batch.contains("in the 4 bytes beyond: [A5, A5, A5, A5]"), "{batch}");
+    assert!(wrong.contains(" -> answer 22, ") && wrong.ends_with("The drive's record: as it was"), "{wrong}");
 }
 
 #[test]

@@ -183,11 +183,9 @@ fn room_asked_for_part_event(moment: &mut Moment) {
 fn part_event_goes_on_in_page_bytes(moment: &mut Moment) {
     let Some(Batch { events, page_bytes }) = moment.command.batch() else { return };
     let lacking = events.len().next_multiple_of(8) - events.len();
-    let Some((rest, page_bytes)) = page_bytes.split_at_checked(lacking).filter(|_| lacking > 0) else {
-        return;
-    };
+    let Some(rest) = page_bytes.get(..lacking).filter(|_| lacking > 0) else { return };
     let events = [events, rest].concat();
-    let batch = Batch { events: &events, page_bytes };
+    let batch = Batch { events: &events, page_bytes: &page_bytes[lacking..] };
     if Sent::at_hand(moment).is_some_and(|sent| batch.broken(sent.room).is_empty()) {
         take_events(moment, &batch.recording());
     }

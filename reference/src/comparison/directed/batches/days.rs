@@ -20,7 +20,7 @@ fn call(at: usize) -> Command {
         0 | 9 => security_out(nexus, page(scope::LOCAL, at)),
         1 => write(nexus.wrapping_sub(3) % 7, true),
         2 => security_out(other, page(scope::ALL, at)),
-        3 | 14 => write(other, at % 4 == 0),
+        3 | 14 => write(other, matches!(at % 4, 0)),
         4 => read(nexus, (at % 3) as u8, [255, 0, 1][at % 3]),
         5 => security_out(nexus, SetPage::supplemental(scope::LOCAL, 2 + (at % 2) as u8, at as u8).bytes()),
         6 => security_in(other, [0x0020, 0x0013, 0x0000][at % 3], 0),
@@ -28,7 +28,7 @@ fn call(at: usize) -> Command {
         8 => write(other, true),
         10 => event_of(kind::PREEMPT, other),
         11 => read(other, 1, 255),
-        12 => security_out(other, SetPage::public(at % 2 == 0).bytes()),
+        12 => security_out(other, SetPage::public(matches!(at % 2, 0)).bytes()),
         13 => event_of(kind::NEXUS_RESERVATION_LOSS, nexus),
         15 => vendor_release((at % 6) as u16),
         16 => security_out(nexus, SetPage::k().bytes()[..40 + at % 13].to_vec()),
@@ -43,7 +43,7 @@ fn call(at: usize) -> Command {
 fn page(scope: u8, at: usize) -> Vec<u8> {
     let modes = SetPage::of_modes(scope, (at % 3) as u8, (at / 3 % 4) as u8);
     let list = if modes.encryption == 2 { descriptor(0, 3, 3) } else { Vec::new() };
-    let [lock, ckod, ckorp, ckorl] = [2, 3, 5, 7].map(|part| at % part == 0);
+    let [lock, ckod, ckorp, ckorl] = [2, 3, 5, 7].map(|part| matches!(at % part, 0));
     SetPage { lock, ckod, ckorp, ckorl, list, ..modes }.bytes()
 }
 
