@@ -1,5 +1,5 @@
--- What is claimed of a batch's verdict (proofs/Due): document 02, request 5, in numbers and without a test. The lines exclude each other and
--- leave no case out, so each says "exactly if".
+-- What is claimed of a batch's verdict (proofs/Due): document 02, request 5, in numbers and without a test. Lines of different numbers
+-- exclude each other, and no case is left out, so each number is due exactly if one of its lines is.
 use Prim.Native.Nat.{ℕ, _*_, _/_, _%_, _≤_, _<_}
 use mathlib.Core.Path.{_≡_}
 use mathlib.Core.List.{List}

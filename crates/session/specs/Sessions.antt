@@ -1,4 +1,4 @@
--- Document 02, request 3: what a session gives, by its verdict: the record at the end, and each byte of the lent buffer.
+-- Document 02, requests 3 and 5: what a session gives, by its verdict: the record at the end, and each byte of the lent buffer.
 use Prim.Native.Nat.{ℕ}
 use mathlib.Core.List.{List}
 use Rattle.arrays.specs.Base.{if_then_else_}

@@ -50,7 +50,10 @@ fn damaged(batch: BatchParts, numbers: &mut Numbers) -> Command {
     }
     match numbers.below(9) {
         0..=4 => in_event(&mut batch, numbers),
-        5 => batch.left_over = numbers.bytes(1 + batch.events.len() % 7),
+        5 => {
+            let bytes = 1 + numbers.below(7);
+            batch.left_over = numbers.bytes(bytes);
+        }
         6 => {}
         7 => return with_other_length(&batch, numbers),
         _ => return with_other_data(&batch, numbers),

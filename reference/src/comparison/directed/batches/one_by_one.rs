@@ -6,7 +6,7 @@ use crate::comparison::batch_builder::BatchParts;
 use crate::comparison::record_builder::{full, mixed, without_all_nexus};
 use crate::comparison::session::{load, power_on, Session, Sink};
 use crate::record::Record;
-use crate::recording::{answer_bytes, replay, Recording, Replayed, Verdict, ANSWER_BYTES, BATCH_EVENTS};
+use crate::recording::{answer_bytes, replay, Recording, Replayed, Verdict, BATCH_EVENTS};
 use crate::stream::{Command, Drive, Reply, LENT_FILL};
 
 /// Days of calls that are tried from each record.
@@ -112,11 +112,12 @@ pub fn sessions(sink: &mut Sink) {
 /// The library against itself: a batch equals its calls one by one. Gives how many were tried.
 pub fn self_check() -> Result<usize, String> {
     let cases = cases();
-    match cases.iter().position(|case| !case.is_equal()) {
+    match cases.iter().find(|case| !case.is_equal()) {
         None => Ok(cases.len()),
-        Some(at) => Err(format!(
-            "the REFERENCE DIFFERS FROM ITSELF: batch {at} of {} events isn't its calls one by one\n",
-            cases[at].batch().room / ANSWER_BYTES
+        Some(case) => Err(format!(
+            "the REFERENCE DIFFERS FROM ITSELF: a batch of {} events isn't its calls one by one:\n{:?}\n",
+            case.commands.len(),
+            case.batch().command()
         )),
     }
 }

@@ -2,14 +2,14 @@
 
 mod batches;
 
-use super::numbers::Numbers;
-use super::page_builder::{random_damage, random_list, set_length, status_header, Edit, SetPage};
-use super::record_builder::random_record;
-use super::session::{
+use crate::codes::{decryption, encryption, opening_key, scope, ALGORITHM};
+use crate::comparison::numbers::Numbers;
+use crate::comparison::page_builder::{random_damage, random_list, set_length, status_header, Edit, SetPage};
+use crate::comparison::record_builder::random_record;
+use crate::comparison::session::{
     event, event_of, load, load_bytes, power_on, read, read_status, security_in, security_out,
     vendor_release, write, Session,
 };
-use crate::codes::{decryption, encryption, opening_key, scope, ALGORITHM};
 use crate::record_bytes::{self, COUNTER_BYTES, NEXUS_BYTES, PLACE_BYTES};
 use crate::sizes::{KEY_BYTES, NEXUSES, PLACES};
 use crate::stream::{kind, Command, Drive};
