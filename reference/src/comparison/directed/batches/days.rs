@@ -23,7 +23,7 @@ fn call(at: usize) -> Command {
         3 | 14 => write(other, matches!(at % 4, 0)),
         4 => read(nexus, (at % 3) as u8, [255, 0, 1][at % 3]),
         5 => security_out(nexus, SetPage::supplemental(scope::LOCAL, 2 + (at % 2) as u8, at as u8).bytes()),
-        6 => security_in(other, [0x0020, 0x0013, 0x0000][at % 3], 0),
+        6 => security_in(other, [0x0020, 0x0013, 0x0000][at % 3], 30),
         7 => [event(kind::DEMOUNT), event(kind::DEVICE_RESERVATION_LOSS)][at % 2].clone(),
         8 => write(other, true),
         10 => event_of(kind::PREEMPT, other),
