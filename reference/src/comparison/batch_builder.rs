@@ -1,6 +1,6 @@
 //! Batches as the comparison sends them: from commands, and with something changed.
 
-use super::page_builder::set_length;
+use super::page_builder::{set_length, SetPage};
 use super::recordings::builder::recording_of;
 use super::session;
 use crate::recording::{whole_events, Event, Recording, ANSWER_BYTES};
@@ -86,4 +86,16 @@ impl BatchParts {
         let data = [&length.to_be_bytes(), events, &self.page_bytes].concat();
         session::batch(data, self.room as u16)
     }
+}
+
+/// P7 with two writes before the demount: nexus 3 sends page K, writes, and is told of the demount (4, then 11).
+pub fn p7() -> Vec<Command> {
+    vec![
+        session::security_out(3, SetPage::k().bytes()),
+        session::write(3, true),
+        session::write(3, false),
+        session::event(kind::DEMOUNT),
+        session::write(3, true),
+        session::write(3, true),
+    ]
 }

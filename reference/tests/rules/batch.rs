@@ -2,11 +2,12 @@
 
 use crate::given::{after_p2, k, k_but};
 use crate::recording::{event, file, out};
+use crate::replay;
 use reference::comparison::record_builder::{full, mixed};
 use reference::comparison::session;
 use reference::record::Record;
 use reference::record_bytes;
-use reference::recording::{replay, Batch, BatchRule, BatchVerdict, BrokenByBatch, Event, FileRule, Verdict};
+use reference::recording::{Batch, BatchRule, BatchVerdict, BrokenByBatch, Event, FileRule, Verdict};
 use reference::stream::{Command, Drive};
 
 /// What is in the buffer before the call.
@@ -244,7 +245,7 @@ fn events_are_wrong_as_in_request_3() {
                 let mut bytes = [kind, 0, 0, 0, 0, 0, 0, 0];
                 bytes[byte] = value;
                 let event = Event::read(bytes);
-                let is_taken = replay(&file(&[event], &k())).verdict == Verdict::Taken;
+                let is_taken = reference::recording::replay(&file(&[event], &k())).verdict == Verdict::Taken;
                 let number = call(&record, &[event], &k(), 4).number;
                 assert_eq!(number, if is_taken { 0 } else { 22 }, "{bytes:?}");
             }
@@ -332,34 +333,12 @@ fn every_kind_answers_1_on_a_record_that_is_not_well_formed() {
     assert_eq!(answers(&damaged(), &[event(3, 16, 1), event(10, 0, 5)], &[]), [[1, 0, 0, 0]; 2]);
 }
 
-/// A session of every kind over three pages: K, K as ALL with every CK bit, and a supplemental key; some refused.
+/// Replay's session of every kind, with a read that is refused, and power-on and page K again in its middle.
 fn session() -> (Vec<Event>, Vec<u8>) {
-    let pages = [k(), k_but(&[(4, 0x40), (5, 0x47)]), k_but(&[(5, 0x08)])].concat();
-    let events = vec![
-        event(1, 5, 0x0020),
-        out(3, 0, 52),
-        out(3, 104, 52),
-        event(11, 3, 0x0101),
-        event(11, 3, 0x0000),
-        out(5, 52, 52),
-        event(3, 5, 0),
-        event(6, 3, 0),
-        event(8, 3, 0),
-        event(3, 5, 1),
-        event(7, 0, 0),
-        event(5, 0, 0),
-        event(3, 3, 1),
-        event(3, 3, 1),
-        event(4, 0, 0),
-        out(3, 0, 51),
-        out(16, 0, 52),
-        event(0, 0, 0),
-        out(3, 0, 52),
-        event(10, 0, 4),
-        out(2, 0, 52),
-        event(9, 0, 0),
-        event(11, 2, 0x0000),
-    ];
+    let (mut events, pages) = replay::session();
+    events.insert(4, event(11, 3, 0x0000));
+    let end = events.len() - 4;
+    events.splice(end..end, [event(0, 0, 0), out(3, 0, 52)]);
     (events, pages)
 }
 
@@ -426,10 +405,13 @@ fn a_batch_from_power_on_is_the_replay_of_its_file() {
     let (events, pages) = session();
     for count in 0..=events.len() {
         let called = call(&Record::power_on(), &events[..count], &pages, 4 * count);
-        let replayed = replay(&file(&events[..count], &pages));
+        let replayed = reference::recording::replay(&file(&events[..count], &pages));
         assert_eq!((called.lent, called.record), (replayed.answers, replayed.record));
     }
     let most = demounts(64);
     let called = call(&Record::power_on(), &most, &[], 256);
-    assert_eq!((called.lent, called.record), (replay(&file(&most, &[])).answers, Record::power_on()));
+    assert_eq!(
+        (called.lent, called.record),
+        (reference::recording::replay(&file(&most, &[])).answers, Record::power_on())
+    );
 }

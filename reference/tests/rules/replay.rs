@@ -45,7 +45,7 @@ fn power_on_in_the_middle() {
 }
 
 /// A session of every kind but power-on over three pages: K, K as ALL with every CK bit, and a supplemental key.
-fn session() -> (Vec<Event>, Vec<u8>) {
+pub fn session() -> (Vec<Event>, Vec<u8>) {
     let all = k_but(&[(4, 0x40), (5, 0x47)]);
     let pages = [k(), all, k_but(&[(5, 0x08)])].concat();
     let events = vec![

@@ -2,27 +2,18 @@
 
 use crate::{answer_words, expected_words, sense_of, Play, Played};
 use reference::answer::NO_SENSE;
-use reference::comparison::batch_builder::BatchParts;
-use reference::comparison::page_builder::SetPage;
-use reference::comparison::session::{event, give_record, security_out, write};
+use reference::comparison::batch_builder::{p7, BatchParts};
+use reference::comparison::session::give_record;
 use reference::recording::{Recording, ANSWER_BYTES};
 use reference::script::told;
-use reference::stream::{kind, Command, Reply, LENT_FILL};
+use reference::stream::{Command, Reply, LENT_FILL};
 
 /// The bytes that the board lends beyond the answers.
 const BEYOND: usize = 4;
 
-/// P7's calls, with P4's writes before the demount.
-fn p7() -> BatchParts {
-    let calls = [
-        security_out(3, SetPage::k().bytes()),
-        write(3, true),
-        write(3, false),
-        event(kind::DEMOUNT),
-        write(3, true),
-        write(3, true),
-    ];
-    let batch = BatchParts::of(&calls);
+/// P7's calls, with P4's writes before the demount, and a lent buffer with some bytes beyond.
+fn board() -> BatchParts {
+    let batch = BatchParts::of(&p7());
     let room = batch.room + BEYOND;
     batch.with_room(room)
 }
@@ -37,8 +28,8 @@ impl Play {
     fn b1(&mut self) -> Played {
         let expected = "the answers of the calls one by one, and the rest of the lent buffer kept";
         self.start("B1", "a bridge board's batch, P7 in one call", expected)?;
-        let reply = self.batch(&p7(), 0)?;
-        self.answers(&p7(), &reply, &[0, 0, 12, 0, 4, 11]);
+        let reply = self.batch(&board(), 0)?;
+        self.answers(&board(), &reply, &[0, 0, 12, 0, 4, 11]);
         self.record("place 1 is empty with number 2", |record| {
             (record.places[1].is_used(), record.places[1].number, record.counter) == (false, 2, 2)
         })
@@ -48,7 +39,7 @@ impl Play {
         let expected = "22 before any event runs: the record and the lent buffer are as they were";
         self.start("B2", "the same with a wrong last event, a write with support flag 2", expected)?;
         let before = self.pipe.ask(&give_record())?;
-        let mut wrong = p7();
+        let mut wrong = board();
         wrong.events[5].argument = 2;
         let reply = self.batch(&wrong, 22)?;
         self.check(reply.data == vec![LENT_FILL; wrong.room], "the lent buffer as it was");

@@ -1,6 +1,6 @@
 //! Recordings as the comparison makes them: from the commands of sessions, and files with something changed.
 
-use crate::codes::PROTOCOL;
+use crate::codes::{page_code, PROTOCOL};
 use crate::comparison::page_builder::SetPage;
 use crate::comparison::session::{event, event_of, read, security_in, security_out, vendor_release, write};
 use crate::recording::{events_end, fields_of, Event, Header, Recording, HEADER_BYTES, LONGEST};
@@ -123,4 +123,31 @@ pub fn change_header(file: &mut [u8], change: impl Fn(&mut Header)) {
 /// The file of some events over some page bytes, put right by its header but not by its events.
 pub fn file_of(events: Vec<Event>, page_bytes: Vec<u8>) -> Vec<u8> {
     Recording { events, page_bytes }.bytes()
+}
+
+/// OUT of a nexus.
+pub fn out(nexus: u8, page_offset: u16, page_length: u16) -> Event {
+    Event { kind: kind::OUT, nexus, argument: page_code::SET_DATA_ENCRYPTION, page_offset, page_length }
+}
+
+/// A write with support.
+pub fn supported_write(nexus: u8) -> Event {
+    Event { kind: kind::WRITE, nexus, argument: 1, ..Event::default() }
+}
+
+/// Pages that overlap, and a PUBLIC page of 24 bytes, of which the last 20 are a PUBLIC page as well.
+pub fn overlapping_pages() -> (Vec<Event>, Vec<u8>) {
+    let mut nested = vec![0; 24];
+    nested[..4].copy_from_slice(&[0, 0x10, 0, 20]);
+    nested[4..8].copy_from_slice(&[0, 0x10, 0, 16]);
+    nested[8] = 1;
+    let events = vec![
+        out(1, 0, 24),
+        supported_write(1),
+        out(2, 4, 20),
+        supported_write(2),
+        out(3, 2, 20),
+        out(4, 0, 23),
+    ];
+    (events, nested)
 }

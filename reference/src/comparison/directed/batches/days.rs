@@ -47,18 +47,6 @@ fn page(scope: u8, at: usize) -> Vec<u8> {
     SetPage { lock, ckod, ckorp, ckorl, list, ..modes }.bytes()
 }
 
-/// P7 with two writes before the demount: nexus 3 sends page K, writes, and is told of the demount (4, then 11).
-pub fn p7() -> Vec<Command> {
-    vec![
-        security_out(3, SetPage::k().bytes()),
-        write(3, true),
-        write(3, false),
-        event(kind::DEMOUNT),
-        write(3, true),
-        write(3, true),
-    ]
-}
-
 /// A call of every kind, power-on in the middle.
 pub fn every_kind() -> Vec<Command> {
     vec![

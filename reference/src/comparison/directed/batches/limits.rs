@@ -1,9 +1,9 @@
 //! The stream's limits of a batch: where its events end, its data, its lent buffer, the fields that are ignored.
 
-use super::days::{day, p7};
-use super::wrong_events::out;
-use crate::comparison::batch_builder::BatchParts;
+use super::days::day;
+use crate::comparison::batch_builder::{p7, BatchParts};
 use crate::comparison::record_builder::{full, mixed};
+use crate::comparison::recordings::builder::out;
 use crate::comparison::session::{batch, event, give_record, power_on, write, Session, Sink, Stage};
 use crate::record::Record;
 use crate::stream::{kind, Command, LENT_LIMIT};

@@ -1,8 +1,8 @@
 //! The same calls as one batch, as two, and as commands: "it must equal the same events sent one by one, refused ones
 //! included, in record and answers".
 
-use super::days::{day, every_kind, p7};
-use crate::comparison::batch_builder::BatchParts;
+use super::days::{day, every_kind};
+use crate::comparison::batch_builder::{p7, BatchParts};
 use crate::comparison::record_builder::{full, mixed, without_all_nexus};
 use crate::comparison::session::{load, power_on, Session, Sink};
 use crate::record::Record;

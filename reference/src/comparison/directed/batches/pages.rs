@@ -1,14 +1,13 @@
 //! Pages in the page bytes that are lent with a batch: offsets count from their start.
 
-use super::wrong_events::out;
 use crate::codes::{decryption, scope};
 use crate::comparison::batch_builder::BatchParts;
 use crate::comparison::page_builder::{set_length, SetPage};
 use crate::comparison::record_builder::{full, mixed};
+use crate::comparison::recordings::builder::{out, overlapping_pages, supported_write};
 use crate::comparison::session::{Sink, Stage};
 use crate::record::Record;
 use crate::recording::Event;
-use crate::stream::kind;
 
 pub fn sessions(sink: &mut Sink) {
     for record in [Record::power_on(), mixed(), full([0, 1, 2, 3])] {
@@ -19,11 +18,6 @@ pub fn sessions(sink: &mut Sink) {
         }
         stage.finish();
     }
-}
-
-/// A write with support.
-fn supported_write(nexus: u8) -> Event {
-    Event { kind: kind::WRITE, nexus, argument: 1, ..Event::default() }
 }
 
 /// Four pages of which each shows: K, an ALL page, a supplemental key for K, and a PUBLIC page.
@@ -65,19 +59,7 @@ fn odd() -> Vec<BatchParts> {
     let k = SetPage::k().bytes();
     let empty = vec![out(0, 0, 0), out(1, 20, 0), out(2, 52, 0), out(3, 0, 52)];
     let equal = (0..5).map(|nexus| out(nexus, 0, 52)).collect();
-    // a PUBLIC page of 24 bytes, of which the last 20 are a PUBLIC page as well
-    let mut nested = vec![0; 24];
-    nested[..4].copy_from_slice(&[0, 0x10, 0, 20]);
-    nested[4..8].copy_from_slice(&[0, 0x10, 0, 16]);
-    nested[8] = 1;
-    let overlapping = vec![
-        out(1, 0, 24),
-        supported_write(1),
-        out(2, 4, 20),
-        supported_write(2),
-        out(3, 2, 20),
-        out(4, 0, 23),
-    ];
+    let (overlapping, nested) = overlapping_pages();
     vec![
         BatchParts::new(empty, k.clone()),
         BatchParts::new(vec![out(3, 0, 0)], Vec::new()),

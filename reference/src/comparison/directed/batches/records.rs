@@ -1,7 +1,7 @@
 //! Starting records that aren't well formed: each event answers 1 until a power-on event.
 
-use super::days::{every_kind, p7};
-use crate::comparison::batch_builder::BatchParts;
+use super::days::every_kind;
+use crate::comparison::batch_builder::{p7, BatchParts};
 use crate::comparison::directed::read_checks::CHANGES;
 use crate::comparison::directed::records::is_bulk;
 use crate::comparison::page_builder::SetPage;

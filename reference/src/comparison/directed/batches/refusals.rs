@@ -1,8 +1,7 @@
 //! Batches with a wrong event, and with more than one wrong thing: "18 comes first".
 
-use super::days::p7;
 use super::wrong_events::{every, one_of_each, page_bytes};
-use crate::comparison::batch_builder::BatchParts;
+use crate::comparison::batch_builder::{p7, BatchParts};
 use crate::comparison::record_builder::{full, mixed};
 use crate::comparison::session::{Sink, Stage};
 use crate::record::Record;

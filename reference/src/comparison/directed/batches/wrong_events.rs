@@ -1,18 +1,13 @@
 //! Events that are wrong by a field or by their page.
 
-use crate::codes::page_code;
 use crate::comparison::page_builder::SetPage;
+use crate::comparison::recordings::builder::out;
 use crate::recording::{event_rules, Event, FileRule, EVENT_BYTES};
 use crate::stream::kind;
 
 /// The page bytes over which the events here are wrong: page K.
 pub fn page_bytes() -> Vec<u8> {
     SetPage::k().bytes()
-}
-
-/// OUT of a page.
-pub fn out(nexus: u8, page_offset: u16, page_length: u16) -> Event {
-    Event { kind: kind::OUT, nexus, argument: page_code::SET_DATA_ENCRYPTION, page_offset, page_length }
 }
 
 /// One event for each rule, which breaks that rule alone.

@@ -1,8 +1,9 @@
 //! What is not wrong: no events, odd pages, power-on anywhere, numbers that are left to the calls.
 
-use crate::codes::page_code;
 use crate::comparison::page_builder::SetPage;
-use crate::comparison::recordings::builder::{file_of, no_events, recording_of, requests};
+use crate::comparison::recordings::builder::{
+    file_of, no_events, out, overlapping_pages, recording_of, requests, supported_write,
+};
 use crate::comparison::recordings::case::{put, Group, Sink};
 use crate::comparison::session::{
     event, event_of, power_on, read, security_in, security_out, vendor_release, write,
@@ -20,35 +21,13 @@ pub fn recordings(sink: &mut Sink) {
     left_to_calls(sink);
 }
 
-/// A write with support.
-fn supported_write(nexus: u8) -> Event {
-    Event { kind: kind::WRITE, nexus, argument: 1, ..Event::default() }
-}
-
-/// OUT of a nexus.
-fn out(nexus: u8, page_offset: u16, page_length: u16) -> Event {
-    Event { kind: kind::OUT, nexus, argument: page_code::SET_DATA_ENCRYPTION, page_offset, page_length }
-}
-
 /// Pages of no bytes, pages that overlap, pages one within another, page bytes that no event uses.
 fn odd_pages(sink: &mut Sink) {
     let k = SetPage::k().bytes();
     let empty = vec![out(0, 0, 0), out(1, 20, 0), out(2, 52, 0), out(3, 0, 52)];
     put(sink, Group::OddPages, "pages of no bytes", file_of(empty, k.clone()));
     put(sink, Group::OddPages, "a page of no bytes, no page bytes", file_of(vec![out(3, 0, 0)], Vec::new()));
-    // a PUBLIC page of 24 bytes, of which the last 20 are a PUBLIC page as well
-    let mut nested = vec![0; 24];
-    nested[..4].copy_from_slice(&[0, 0x10, 0, 20]);
-    nested[4..8].copy_from_slice(&[0, 0x10, 0, 16]);
-    nested[8] = 1;
-    let overlapping = vec![
-        out(1, 0, 24),
-        supported_write(1),
-        out(2, 4, 20),
-        supported_write(2),
-        out(3, 2, 20),
-        out(4, 0, 23),
-    ];
+    let (overlapping, nested) = overlapping_pages();
     put(sink, Group::OddPages, "overlapping pages", file_of(overlapping, nested));
     let around = [vec![0xA5; 30], k.clone(), vec![0x5A; 70]].concat();
     put(
