@@ -4,12 +4,12 @@ use command::Request;
 use device_16::Device;
 use libc::STDIN_FILENO;
 use libc::STDOUT_FILENO;
-use stream_16::HEAD_SIZE;
-use stream_16::REPLY_MOST;
-use stream_16::Reply;
+use reply_16::HEAD_SIZE;
+use reply_16::REPLY_MOST;
+use reply_16::Reply;
 ghost use Prim.Native.Nat.{_+_, _≤_};
 ghost use Rattle.command.specs.Replies.{replyHeadSize};
-ghost use Rattle.stream_16.specs.Stream.{replyMost};
+ghost use Rattle.reply_16.specs.Giving.{replyMost};
 
 const COMMAND_SIZE: usize = 8;
 

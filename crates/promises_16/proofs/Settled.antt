@@ -36,6 +36,15 @@ pub use Rattle.drive_16.proofs.Settled.{happen-settles as drive-16-happen-settl
 -- crate record_16
 pub use Rattle.record_16.proofs.Settled.{record-bytes-settles as record-16-record-bytes-settles}
 pub use Rattle.record_16.proofs.Settled.{load-settles as record-16-load-settles}
+-- crate reply_16
+pub use Rattle.reply_16.proofs.Settled.{reply-with-settles as reply-16-reply-with-settles}
+pub use Rattle.reply_16.proofs.Settled.{plain-settles as reply-16-plain-settles}
+pub use Rattle.reply_16.proofs.Settled.{unknown-settles as reply-16-unknown-settles}
+pub use Rattle.reply_16.proofs.Settled.{give-write-settles as reply-16-give-write-settles}
+pub use Rattle.reply_16.proofs.Settled.{give-read-settles as reply-16-give-read-settles}
+pub use Rattle.reply_16.proofs.Settled.{give-status-settles as reply-16-give-status-settles}
+pub use Rattle.reply_16.proofs.Settled.{take-record-settles as reply-16-take-record-settles}
+pub use Rattle.reply_16.proofs.Settled.{give-record-settles as reply-16-give-record-settles}
 -- crate stream_16
 pub use Rattle.stream_16.proofs.Settled.{obey-settles as stream-16-obey-settles}
 -- crate calls_16

@@ -1,5 +1,4 @@
-pub mod Giving
-pub mod Tools
+pub mod Lending
 pub mod Obeying
 pub mod Serving
 pub mod Settled

@@ -23,9 +23,10 @@ use Rattle.command.specs.Replies.{Replied, unknownReply, called, askedReply, ob
 use Rattle.command.specs.declared.Request.{Request}
 use Rattle.command.specs.declared.Order.{Order}
 use Rattle.command.proofs.Requests.{lends-most}
-use Rattle.stream_16.specs.Stream.{lentPart, replyMost, replyOf, replyWith, Given, served}
-use Rattle.stream_16.specs.declared.Reply.{Reply}
-use Rattle.stream_16.proofs.Giving.{kept}
+use Rattle.reply_16.specs.Giving.{replyMost, replyOf, replyWith, Given}
+use Rattle.reply_16.proofs.Giving.{kept}
+use Rattle.stream_16.specs.Stream.{lentPart, served}
+use Rattle.reply_16.specs.declared.Reply.{Reply}
 
 -- a call that gives its answer alone
 pub call-told : (s : State) (call : Call) {o : Outcome} {r : Reply} → o ≡ outcome s call → r ≡ replyWith (o .device) (o .answer) 0

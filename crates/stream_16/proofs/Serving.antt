@@ -11,7 +11,8 @@ use Rattle.record.specs.Bytes.{recordSize}
 use Rattle.command.specs.Requests.{orderOf}
 use Rattle.command.specs.Replies.{replied}
 use Rattle.command.specs.declared.Request.{Request}
-use Rattle.stream_16.specs.Stream.{lentPart, replyMost, served}
+use Rattle.reply_16.specs.Giving.{replyMost}
+use Rattle.stream_16.specs.Stream.{lentPart, served}
 
 -- Room for IN's head of 8 bytes, a lent buffer of 4,096 and a record: then each command is replied to as docs/CONSOLE.md says.
 pub is-served : (s : State) (request : Request) (page buffer : List ℕ) → 8 + 4096 + recordSize nexusCount placeCount ≤ length buffer

@@ -1,7 +1,7 @@
 use borrow.Author.Needs.{needs}
 use mathlib.Core.Path.{ap}
 use native.Mathlib.Omega.{arith}
-use Rattle.stream_16.specs.declared.Reply.{Reply}
+use Rattle.reply_16.specs.declared.Reply.{Reply}
 use Rattle.console_16.proofs.answer.Statement.{statement}
 use Rattle.console_16.proofs.answer.Tie as tie
 

@@ -8,8 +8,9 @@ use Rattle.device_16.specs.Model.{state}
 use Rattle.drive.specs.Calls.{securityOut, unitReset, happens}
 use Rattle.calls.specs.declared.Asked.the-variants.{PowerOn, In, Out, Write, Read, UnitReset, Happen}
 use Rattle.command.specs.Replies.{askedReply}
-use Rattle.stream_16.specs.Stream.{inFrom, partFrom}
-use Rattle.stream_16.proofs.Giving.{kept}
+use Rattle.reply_16.specs.Giving.{inFrom}
+use Rattle.stream_16.specs.Stream.{partFrom}
+use Rattle.reply_16.proofs.Giving.{kept}
 use Rattle.stream_16.proofs.Obeying.{call-told, power-told, asked-followed}
 use Rattle.stream_16.proofs.ask.Statement.{statement}
 use Rattle.stream_16.proofs.ask.Tie as tie

@@ -7,9 +7,9 @@ use Rattle.device_16.specs.Model.{state}
 use Rattle.command.specs.Requests.{lentMost, lentSize}
 use Rattle.command.specs.Replies.{obeyed}
 use Rattle.command.specs.declared.Order.the-variants.{Unknown, Ask, Batch, ReadStatus, TakeRecord, GiveRecord}
-use Rattle.stream_16.specs.Stream.{replyMost}
-use Rattle.stream_16.proofs.Giving.{kept}
-use Rattle.stream_16.proofs.Tools.{taken-none}
+use Rattle.reply_16.specs.Giving.{replyMost}
+use Rattle.reply_16.proofs.Giving.{kept}
+use Rattle.reply_16.proofs.Tools.{taken-none}
 use Rattle.stream_16.proofs.Obeying.{few-known, followed}
 use Rattle.stream_16.proofs.follow.Statement.{statement}
 use Rattle.stream_16.proofs.follow.Tie as tie

@@ -7,8 +7,9 @@ use denote.Ref.{now}
 use lib.ListN.{length}
 use Rattle.device_16.specs.Model.{state}
 use Rattle.command.specs.Requests.{lentMost}
-use Rattle.stream_16.specs.Stream.{batchFrom, partFrom, replyMost}
-use Rattle.stream_16.proofs.Giving.{batch-unknown, batch-given}
+use Rattle.reply_16.specs.Giving.{replyMost}
+use Rattle.stream_16.specs.Stream.{batchFrom, partFrom}
+use Rattle.stream_16.proofs.Lending.{batch-unknown, batch-given}
 use Rattle.stream_16.proofs.give_batch.Statement.{statement}
 use Rattle.stream_16.proofs.give_batch.Tie as tie
 

@@ -6,8 +6,8 @@ use denote.Ref.{now}
 use lib.ListN.{length}
 use Rattle.device_16.specs.Model.{state}
 use Rattle.command.specs.Requests.{lentMost}
-use Rattle.stream_16.specs.Stream.{inFrom, replyMost}
-use Rattle.stream_16.proofs.Giving.{in-given}
+use Rattle.reply_16.specs.Giving.{inFrom, replyMost}
+use Rattle.stream_16.proofs.Lending.{in-given}
 use Rattle.stream_16.proofs.give_in.Statement.{statement}
 use Rattle.stream_16.proofs.give_in.Tie as tie
 

@@ -6,9 +6,9 @@ use borrow.Author.Tests.{not-true, not-false}
 use denote.Ref.{now}
 use lib.ListN.{length}
 use Rattle.device_16.specs.Model.{state}
-use Rattle.stream_16.proofs.Tools.{status-stopped, status-given}
-use Rattle.stream_16.proofs.give_status.Statement.{statement}
-use Rattle.stream_16.proofs.give_status.Tie as tie
+use Rattle.reply_16.proofs.Tools.{status-stopped, status-given}
+use Rattle.reply_16.proofs.give_status.Statement.{statement}
+use Rattle.reply_16.proofs.give_status.Tie as tie
 
 -- how many bytes of key-associated data there are
 sized : (c : tie.After-kads-bytes) → length (c .kads-bytes .result) ≡ 46

@@ -1,6 +1,6 @@
 use borrow.Author.Needs.{needs}
-use Rattle.stream_16.proofs.reply_with.Statement.{statement}
-use Rattle.stream_16.proofs.reply_with.Tie as tie
+use Rattle.reply_16.proofs.reply_with.Statement.{statement}
+use Rattle.reply_16.proofs.reply_with.Tie as tie
 
 pub reply-with-spec : {M : Type 1} → statement M
 reply-with-spec =

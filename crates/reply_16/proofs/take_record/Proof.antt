@@ -6,9 +6,9 @@ use lib.ListN.{length}
 use Rattle.arrays.proofs.Laws.{sized-field}
 use Rattle.sizes_16.specs.Sizes.{nexusCount, placeCount}
 use Rattle.device_16.specs.Model.{state}
-use Rattle.stream_16.proofs.Tools.{take-refused, take-done}
-use Rattle.stream_16.proofs.take_record.Statement.{statement}
-use Rattle.stream_16.proofs.take_record.Tie as tie
+use Rattle.reply_16.proofs.Tools.{take-refused, take-done}
+use Rattle.reply_16.proofs.take_record.Statement.{statement}
+use Rattle.reply_16.proofs.take_record.Tie as tie
 
 -- the record has its nexuses and places
 nexuses : (c : tie.After-load) → length (c .before .before .args .d .nexuses) ≡ nexusCount

@@ -5,10 +5,10 @@ use lib.ListN.{length}
 use Rattle.record.specs.Bytes.{recordSize}
 use Rattle.sizes_16.specs.Sizes.{nexusCount, placeCount}
 use Rattle.device_16.specs.Model.{state}
-use Rattle.stream_16.proofs.Giving.{given-as}
-use Rattle.stream_16.proofs.Tools.{record-given}
-use Rattle.stream_16.proofs.give_record.Statement.{statement}
-use Rattle.stream_16.proofs.give_record.Tie as tie
+use Rattle.reply_16.proofs.Giving.{given-as}
+use Rattle.reply_16.proofs.Tools.{record-given}
+use Rattle.reply_16.proofs.give_record.Statement.{statement}
+use Rattle.reply_16.proofs.give_record.Tie as tie
 
 -- how many bytes there are
 sized : (c : tie.After-record-bytes) → length (c .record-bytes .result) ≡ recordSize nexusCount placeCount

@@ -21,9 +21,9 @@ use Rattle.record.specs.Good.{goodBytes, recordTaken}
 use Rattle.record_16.specs.Loading.{loaded}
 use Rattle.record_16.specs.declared.Loaded.{Loaded}
 use Rattle.command.specs.Replies.{replyHeadSize, answered, whenDone, valuesHead, valuesBytes, statusReply, takeReply, giveReply}
-use Rattle.stream_16.specs.Stream.{replyMost, replyOf, replyWith, Given}
-use Rattle.stream_16.specs.declared.Reply.{Reply}
-use Rattle.stream_16.proofs.Giving.{stopped, stored}
+use Rattle.reply_16.specs.Giving.{replyMost, replyOf, replyWith, Given}
+use Rattle.reply_16.specs.declared.Reply.{Reply}
+use Rattle.reply_16.proofs.Giving.{stopped, stored}
 
 -- the status reader
 module _ (s : State) (page : List ℕ) {read : StatusRead} (p : read ≡ readStatus page) where

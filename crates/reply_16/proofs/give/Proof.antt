@@ -6,10 +6,10 @@ use denote.Ref.{now}
 use lib.ListN.{length}
 use Rattle.device_16.specs.Model.{state}
 use Rattle.command.specs.Replies.{replyHeadSize}
-use Rattle.stream_16.specs.Stream.{replyMost}
-use Rattle.stream_16.proofs.Giving.{stopped, stored}
-use Rattle.stream_16.proofs.give.Statement.{statement}
-use Rattle.stream_16.proofs.give.Tie as tie
+use Rattle.reply_16.specs.Giving.{replyMost}
+use Rattle.reply_16.proofs.Giving.{stopped, stored}
+use Rattle.reply_16.proofs.give.Statement.{statement}
+use Rattle.reply_16.proofs.give.Tie as tie
 
 pub give-spec : {M : Type 1} → statement M
 give-spec =

@@ -1,0 +1,3 @@
+pub mod Giving
+pub mod Tools
+pub mod Settled
