@@ -1,3 +1,4 @@
 pub mod Requests
+pub mod Ordered
 pub mod Replies
 pub mod Worked

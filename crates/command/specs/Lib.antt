@@ -1,4 +1,5 @@
 pub mod Kinds
 pub mod Requests
 pub mod Replies
+pub mod Ordered
 pub mod Claims

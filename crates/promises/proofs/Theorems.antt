@@ -56,8 +56,10 @@ pub use Rattle.drive.proofs.CeemTable.{ceem, ceem-proved}
 pub use Rattle.drive.proofs.Same.{same-record}
 -- A reply's head has the bytes that stand before the data, and tells its number, its sense and how many bytes of data follow.
 pub use Rattle.command.proofs.Replies.{head-size, head-number, head-sense, head-length}
--- A kind that has data is the kind of a known command, but for a batch whose buffer is too large.
-pub use Rattle.command.proofs.Requests.{out-order, batch-order, status-order, take-order}
+-- Every command: its 8 bytes read, and what it orders; every call's reply tells the drive's own answer and record, and its data.
+pub use Rattle.command.proofs.Ordered.{command-read, ordered, call-replied, data-replied}
+-- A batch's data are read back, and its reply tells its verdict, its buffer and its record; one whose events run past its data is unknown.
+pub use Rattle.command.proofs.Ordered.{batch-events, batch-pages, batch-replied, batch-past}
 -- The stored session of the stream, further commands and records taken and given: what is replied is what is printed there.
 pub use Rattle.command.proofs.Worked.{session-proved, further-proved as stream-further-proved, records-proved}
 -- Every call of a well-formed record leaves a well-formed record; power-on gives one; so since power-on answer 1 is never due.

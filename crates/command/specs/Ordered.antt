@@ -1,0 +1,81 @@
+-- What is claimed of every command (proofs/Ordered): docs/CONSOLE.md's table of kinds, and its unknown commands, line by line. What each kind of
+-- call asks is crate calls' (`kind-0` to `kind-11`).
+use Prim.Native.Nat.{ℕ, _≤_, _<_}
+use mathlib.Core.Path.{_≡_}
+use mathlib.Core.Bool.{Bool, true, false}
+use mathlib.Core.List.{List, [], _∷_, _++_}
+use lib.ListN.{length}
+use Rattle.wire.specs.Numbers.{two}
+use Rattle.answer.specs.Answers.{numberOf, senseOf, isDone}
+use Rattle.answer.specs.declared.Answer.the-variants.{Done}
+use Rattle.device.specs.Record.{State}
+use Rattle.device.specs.Selecting.{selected, selectedSet}
+use Rattle.places.specs.declared.Event.{Event}
+use Rattle.drive.specs.declared.Command.{Command}
+use Rattle.drive.specs.declared.Block.{Block}
+use Rattle.drive.specs.Calls as calls
+use Rattle.drive.specs.Calls.{Call, securityIn, write}
+use Rattle.drive.specs.Restoring.{readValueOf}
+use Rattle.drive.specs.Checks.{answer}
+use Rattle.drive.specs.After.{after}
+use Rattle.drive.specs.Outcomes.{inLength, inBuffer, decision, readDecision, valueOf}
+use Rattle.calls.specs.Asking.{askedOf}
+use Rattle.calls.specs.declared.Asked.{Asked}
+use Rattle.calls.specs.declared.Asked.the-variants.{PowerOn, In, Out, Write, Read, UnitReset, Happen}
+use Rattle.recording.specs.Verdicts.{verdictNumber}
+use Rattle.batch.specs.Batches.{batchVerdict, batchRecord, batchBuffer}
+use Rattle.command.specs.Requests.{orderOf}
+use Rattle.command.specs.Replies.{Replied, askedReply}
+use Rattle.command.specs.declared.Request.{Request}
+use Rattle.command.specs.declared.Order.the-variants.{Unknown, Ask, Batch, ReadStatus, TakeRecord, GiveRecord}
+
+abbrev asks : Request → Asked
+asks r = askedOf (r .kind) (r .nexus) (r .argument) (r .protocol)
+
+-- what a command orders, whatever its other bytes
+pub record Ordered (r : Request) : Type 0 where
+  -- 0 to 11 but IN and write: that call
+  pub call : r .kind ≤ 11 → (r .kind ≡ 1 → ⊥) → (r .kind ≡ 3 → ⊥) → orderOf r ≡ Ask (asks r) 0
+  -- 1 IN: L is "size of the lent buffer, at most 4,096"
+  pub lends : r .kind ≡ 1 → r .length ≤ 4096 → orderOf r ≡ Ask (asks r) (r .length)
+  pub lendsAbove : r .kind ≡ 1 → 4096 < r .length → orderOf r ≡ Unknown
+  -- 3 write: "1 where the volume supports algorithm 1, else 0"
+  pub write : r .kind ≡ 3 → r .argument ≤ 1 → orderOf r ≡ Ask (asks r) 0
+  pub writeAbove : r .kind ≡ 3 → 1 < r .argument → orderOf r ≡ Unknown
+  -- 12 batch: the argument is "size of the lent buffer, at most 4,096"
+  pub batch : r .kind ≡ 12 → r .argument ≤ 4096 → orderOf r ≡ Batch (r .argument)
+  pub batchAbove : r .kind ≡ 12 → 4096 < r .argument → orderOf r ≡ Unknown
+  -- "a kind not in the table (13 to 252)"
+  pub other : 12 < r .kind → r .kind < 253 → orderOf r ≡ Unknown
+  -- 253 the status reader, 254 take, 255 give a device record
+  pub status : r .kind ≡ 253 → orderOf r ≡ ReadStatus
+  pub take : r .kind ≡ 254 → orderOf r ≡ TakeRecord
+  pub give : r .kind ≡ 255 → orderOf r ≡ GiveRecord
+
+-- a reply to a call tells the drive's own answer to it, with its sense, and the record after it
+pub record Answers (s : State) (call : Call) (x : Replied) : Type 0 where
+  pub number : x .number ≡ numberOf (answer s call)
+  pub sense : x .sense ≡ senseOf (answer s call)
+  pub left : x .state ≡ after s call
+
+-- the data of IN: "the page's full length (2; 0 where refused), then the lent buffer whole"; of a write and a read that are done "0 clear, 1
+-- external, 2 encrypted; place; algorithm index" and "0 plain, 1 raw, 2 decrypted; place"; of refused ones, and of every other call, none
+pub record Data (s : State) (page lent : List ℕ) : Type 0 where
+  pub given : (c : Command) → let a = answer s (securityIn c) in askedReply s (In c) page lent .bytes ≡ two (inLength s c a) ++ inBuffer s c a lent
+  pub written : (n : ℕ) (supported : Bool) → let a = answer s (write n supported) in isDone a ≡ true
+      → askedReply s (Write n supported) page lent .bytes ≡ valueOf (decision s n a) ∷ selected s n ∷ selectedSet s n .fields .index ∷ []
+  pub unwritten : (n : ℕ) (supported : Bool) → isDone (answer s (write n supported)) ≡ false → askedReply s (Write n supported) page lent .bytes ≡ []
+  pub read : (n : ℕ) (block : Block) → let a = answer s (calls.read n block) in isDone a ≡ true
+      → askedReply s (Read n block) page lent .bytes ≡ readValueOf (readDecision s n block a) ∷ selected s n ∷ []
+  pub unread : (n : ℕ) (block : Block) → isDone (answer s (calls.read n block)) ≡ false → askedReply s (Read n block) page lent .bytes ≡ []
+  pub sent : (c : Command) → askedReply s (Out c) page lent .bytes ≡ []
+  pub happened : (event : Event) → askedReply s (Happen event) page lent .bytes ≡ []
+  pub reset : askedReply s UnitReset page lent .bytes ≡ []
+  pub powered : askedReply s PowerOn page lent .bytes ≡ []
+
+-- a reply to a batch tells its verdict without sense, the lent buffer whole, and the record after it
+pub record AnswersBatch (s : State) (events pages lent : List ℕ) (x : Replied) : Type 0 where
+  pub number : x .number ≡ verdictNumber (batchVerdict events pages (length lent))
+  pub sense : x .sense ≡ senseOf Done
+  pub told : x .bytes ≡ batchBuffer s events pages lent
+  pub left : x .state ≡ batchRecord s events pages lent
