@@ -1,0 +1,4 @@
+pub mod Touches
+pub mod Causes
+pub mod Reasons
+pub mod Watching
