@@ -37,7 +37,7 @@ use Rattle.drive.specs.declared.Ruling.{Ruling}
 use Rattle.drive.specs.declared.ReadDecision.{ReadDecision}
 use Rattle.drive.specs.Restoring.{plainKind, encryptedKind, noKey, underMode, notKnown, restored}
 use Rattle.drive.specs.RestoringClaims.{readNumber}
-use Rattle.drive.specs.Calls.{Call, powerUp, securityIn, securityOut, write, read, unitReset, happens, senderOf}
+use Rattle.drive.specs.Calls.{Call, powerUp, securityIn, securityOut, write, read, unitReset, happens, senderOf, isPowerUp}
 use Rattle.status.specs.Pages.{isOutPage}
 use Rattle.drive.specs.Checks.{answerIf, firstOf, pageChecked, check1, check10, instanceChanged, notUsable, heardOf, permitted, commandedOf, checks, recordCheck, answer, knownAnswer, answerWhere}
 use Rattle.drive.specs.Effects.{Effect, nothing, marks, takes, clears, releasing, restarts, doing, refusal, effectBy, effect}
@@ -205,16 +205,20 @@ other-restarts : (s : State) (call : Call) → isRestart (doing s call) ≡ fals
 unfolding effectBy
 other-restarts s call e = if-elim (λ x. isRestart x ≡ false) (isDone (answer s call)) (λ t. e) (λ f. refusal-restarts (senderOf call) (changeOf (answer s call)))
 
--- whether a call is power-on does not depend on the record
-pub restarts-anyway : (s t : State) (call : Call) → isRestart (effect s call) ≡ isRestart (effect t call)
+-- power-on alone restarts
+pub restarts-power : (s : State) (call : Call) → isRestart (effect s call) ≡ isPowerUp call
 unfolding effectBy answer checks
-restarts-anyway s t powerUp = refl
-restarts-anyway s t (securityIn command) = other-restarts s (securityIn command) refl ∙ sym (other-restarts t (securityIn command) refl)
-restarts-anyway s t (securityOut command page) = other-restarts s (securityOut command page) refl ∙ sym (other-restarts t (securityOut command page) refl)
-restarts-anyway s t (write n supported) = other-restarts s (write n supported) refl ∙ sym (other-restarts t (write n supported) refl)
-restarts-anyway s t (read n block) = other-restarts s (read n block) refl ∙ sym (other-restarts t (read n block) refl)
-restarts-anyway s t unitReset = other-restarts s unitReset refl ∙ sym (other-restarts t unitReset refl)
-restarts-anyway s t (happens event) = other-restarts s (happens event) refl ∙ sym (other-restarts t (happens event) refl)
+restarts-power s powerUp = refl
+restarts-power s (securityIn command) = other-restarts s (securityIn command) refl
+restarts-power s (securityOut command page) = other-restarts s (securityOut command page) refl
+restarts-power s (write n supported) = other-restarts s (write n supported) refl
+restarts-power s (read n block) = other-restarts s (read n block) refl
+restarts-power s unitReset = other-restarts s unitReset refl
+restarts-power s (happens event) = other-restarts s (happens event) refl
+
+-- so whether a call does does not depend on the record
+pub restarts-anyway : (s t : State) (call : Call) → isRestart (effect s call) ≡ isRestart (effect t call)
+restarts-anyway s t call = restarts-power s call ∙ sym (restarts-power t call)
 
 -- ---- a write and a read: checks 1 to 4, then their own
 

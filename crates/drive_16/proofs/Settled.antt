@@ -9,6 +9,8 @@ use Rattle.drive_16.proofs.security_in_known.Reads as security-in-known
 use Rattle.drive_16.proofs.security_in_known.Kinds as security-in-known-kinds
 use Rattle.drive_16.proofs.security_in.Reads as security-in
 use Rattle.drive_16.proofs.security_in.Kinds as security-in-kinds
+use Rattle.drive_16.proofs.check_page.Reads as check-page
+use Rattle.drive_16.proofs.check_page.Kinds as check-page-kinds
 use Rattle.drive_16.proofs.security_out_known.Reads as security-out-known
 use Rattle.drive_16.proofs.security_out_known.Kinds as security-out-known-kinds
 use Rattle.drive_16.proofs.security_out.Reads as security-out
@@ -38,6 +40,9 @@ security-in-known-settles κs a x y s t p q = both-same (p .0) (p .1) (q .0) (q 
 
 pub security-in-settles : Settles 1 security-in-kinds.ps security-in-kinds.r (List ℕ) (λ κs s. now (s .1 .1 .0)) security-in.Post
 security-in-settles κs a x y s t p q = both-same (p .0) (p .1) (q .0) (q .1)
+
+pub check-page-settles : SettlesAnswer 1 check-page-kinds.ps check-page-kinds.r check-page.Post
+check-page-settles κs a x y s t p q = same p q
 
 pub security-out-known-settles : SettlesAnswer 1 security-out-known-kinds.ps security-out-known-kinds.r security-out-known.Post
 security-out-known-settles κs a x y s t p q = same p q

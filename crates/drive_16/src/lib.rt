@@ -158,7 +158,7 @@ pub fn security_in(d: Device, command: Command, buffer: &mut [u8]) -> InOutcome
 }
 
 // Checks 7, 8 and 9, and the page read.
-fn check_page(d: Device, n: u8, page: &[u8]) -> Checked
+pub fn check_page(d: Device, n: u8, page: &[u8]) -> Checked
     ensures { λ r. ⌜ r ≡ pageChecked (state d) n (now (page .entry)) ⌝ }
 {
     let nexus = device_16::nexus_at(d, n as usize);

@@ -139,7 +139,7 @@ own-good rule n s e b t fits =
 -- ---- any other effect
 
 -- every nexus is new
-new-nexus : (k n : ℕ) → getD (replicate k newNexus) n newNexus ≡ newNexus
+pub new-nexus : (k n : ℕ) → getD (replicate k newNexus) n newNexus ≡ newNexus
 new-nexus zero n = refl
 new-nexus (suc k) zero = refl
 new-nexus (suc k) (suc n) = new-nexus k n

@@ -96,7 +96,7 @@ module _ (n : ℕ) (s : State) (a : Action) where
   fell t = selected-shared (act s a) n (ap (λ (x : Nexus). eqb (x .scope) localScope) (act-nexus s a n ∙ if-true _ _ _ t))
 
   -- and stays without
-  stayed : owns n (a .contents) ≡ false → eqb (selected s n) (a .place) ≡ false → selected (act s a) n ≡ selected s n
+  pub stayed : owns n (a .contents) ≡ false → eqb (selected s n) (a .place) ≡ false → selected (act s a) n ≡ selected s n
   stayed o t =
       let scope : nexusAt (act s a) n .scope ≡ nexusAt s n .scope = ap (λ (x : Nexus). x .scope) (act-nexus s a n ∙ if-false _ _ _ t) in
       cases (eqb (nexusAt s n .scope) localScope)

@@ -140,8 +140,8 @@ sound-same s t c n o h = record {
 }
 
 module _ (rule : Telling) (s : State) (e : Effect) where
-  -- a number, and a scope, is as the effect's actions leave it
-  left-is : (r : Set → ℕ) → ((k : Supplemental) (x : Set) → r (withSupplemental k x) ≡ r x) → isRestart e ≡ false → (p : ℕ) → r (setAt (carriedOut rule s e) p) ≡ r (setAt (acts s (actionsOf s e)) p)
+  -- whatever else than supplemental keys is read of a set is as the effect's actions leave it
+  pub left-is : {B : Type 0} (r : Set → B) → ((k : Supplemental) (x : Set) → r (withSupplemental k x) ≡ r x) → isRestart e ≡ false → (p : ℕ) → r (setAt (carriedOut rule s e) p) ≡ r (setAt (acts s (actionsOf s e)) p)
   unfolding flagged
   left-is r h f p =
       told-same (λ x. r (setAt x p)) (λ differ actor s t. refl) rule s e
@@ -216,3 +216,9 @@ differs-hits l s t n w same =
     ap (λ k. not (eqb (selected s n) (selected t n)) || not (eqb (placeNumber s (selected s n)) k)) now
     ∙ ap (λ b. not (eqb (selected s n) (selected t n)) || b) (renumbered l s (selected s n) (selected-within s n (w .some)) w))
     (λ e. simp e)
+
+-- a place has another number after an effect that isn't power-on exactly where an action was on it
+pub number-hits : (rule : Telling) (s : State) (e : Effect) (place : ℕ) → place < length (s .sets) → Low s (length (actionsOf s e)) → isRestart e ≡ false
+    → not (eqb (placeNumber s place) (placeNumber (carriedOut rule s e) place)) ≡ hits place (actionsOf s e)
+number-hits rule s e place within w f =
+    ap (λ k. not (eqb (placeNumber s place) k)) (left-is rule s e (λ x. x .number) (λ k x. refl) f place) ∙ renumbered (actionsOf s e) s place within w

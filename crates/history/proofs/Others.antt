@@ -105,7 +105,7 @@ unfolding senderAfter
 settled-unseen n m page s e = nexus-unseen n s _ (ap part (getD-set-other (s .nexuses) m n _ newNexus (λ x. eqb-false m n e (sym x))))
 
 -- a page that isn't supplemental is another's
-other-sender : (m n : ℕ) (page : Page) → (eqb m n && not (page .supplemental)) ≡ false → page .supplemental ≡ false → eqb m n ≡ false
+pub other-sender : (m n : ℕ) (page : Page) → (eqb m n && not (page .supplemental)) ≡ false → page .supplemental ≡ false → eqb m n ≡ false
 other-sender m n page e t = sym (and-true (eqb m n)) ∙ ap (λ b. eqb m n && not b) (sym t) ∙ e
 
 -- another nexus's page taken, or a supplemental one
@@ -117,7 +117,7 @@ taken-unseen n m page s e =
     (λ t. rw (taken-whole s m page t) (settled-unseen n m page (acts s (pageActions s m page)) (other-sender m n page e t)))
 
 -- what an effect changes that is no page of the nexus's own, it changes by its actions
-changed-unseen : (n : ℕ) (s : State) (e : Effect) → accepts n e ≡ false → isRestart e ≡ false → Unseen n (acts s (actionsOf s e)) (changedBy s e)
+pub changed-unseen : (n : ℕ) (s : State) (e : Effect) → accepts n e ≡ false → isRestart e ≡ false → Unseen n (acts s (actionsOf s e)) (changedBy s e)
 unfolding changedBy actionsOf acts
 changed-unseen n s nothing e f = refl
 changed-unseen n s (marks m change) e f = changes-unseen n m change s

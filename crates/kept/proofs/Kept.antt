@@ -162,7 +162,7 @@ module _ (s : State) (w : wellFormed s ≡ true) (n : ℕ) where
       (λ t. t))
 
   -- what holds where the nexus owns no place, and where it owns the place found and no other, holds of its own place
-  own-by : (P : Found → Type 0) → ((k : ℕ) → k < length (s .sets) → 0 < k → owns n (setAt s k) ≡ true → held n s ≡ 1 → P (At k)) → (held n s ≡ 0 → P Nowhere) → P (ownPlace s n)
+  pub own-by : (P : Found → Type 0) → ((k : ℕ) → k < length (s .sets) → 0 < k → owns n (setAt s k) ≡ true → held n s ≡ 1 → P (At k)) → (held n s ≡ 0 → P Nowhere) → P (ownPlace s n)
   unfolding ownPlace ownedPlace
   own-by P at none =
       if-elim P (eqb (nexusAt s n .scope) localScope)
@@ -184,7 +184,7 @@ RoomFit s n (Evicting place) = (Vacant s n place) × (held n s ≡ 0)
 RoomFit s n NoRoom = Unit
 
 -- a place other than 0 comes after it
-not-zero : (k : ℕ) → not (eqb k 0) ≡ true → 0 < k
+pub not-zero : (k : ℕ) → not (eqb k 0) ≡ true → 0 < k
 not-zero k e = let z : k ≡ 0 → ⊥ = eqb-false k 0 (not-true _ e) in omega (arith, z)
 
 module _ (s : State) (w : wellFormed s ≡ true) (n : ℕ) where

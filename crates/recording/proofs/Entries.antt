@@ -40,7 +40,7 @@ entry-append bytes more h =
     simp (at 0 (omega arith), at 1 (omega arith), at 2 (omega arith), at 3 (omega arith), at 4 (omega arith), at 5 (omega arith), at 6 (omega arith), at 7 (omega arith))
 
 -- or is cut off
-entry-take : (n : ℕ) (bytes : List ℕ) → 8 ≤ n → entryOf (take n bytes) ≡ entryOf bytes
+pub entry-take : (n : ℕ) (bytes : List ℕ) → 8 ≤ n → entryOf (take n bytes) ≡ entryOf bytes
 unfolding entryOf
 entry-take n bytes h =
     let at : (i : ℕ) → i < 8 → byteAt (take n bytes) i ≡ byteAt bytes i = λ i l. getD-take n bytes i 0 (omega arith) in

@@ -1,0 +1,7 @@
+pub mod Watching
+pub mod Same
+pub mod DeedsRooms
+pub mod DeedsActions
+pub mod DeedsStopped
+pub mod DeedsRaised
+pub mod Deeds

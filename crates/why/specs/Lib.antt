@@ -2,3 +2,4 @@ pub mod Touches
 pub mod Causes
 pub mod Reasons
 pub mod Watching
+pub mod Deeds

@@ -33,11 +33,16 @@ abbrev pub noCause : Cause
 noCause = record { answer = answers.Done; touch = untouched; mode = 0 }
 
 -- a cause, and the recorded kind and nexus of its call
-abbrev pub reasonBy : Verdict → (events : List ℕ) → Cause → Reason
-reasonBy verdict events cause = let e = eventAt events (cause .touch .at) in record { verdict = verdict; cause = cause; kind = e .kind; nexus = e .nexus }
+abbrev pub reasonBy : (events : List ℕ) → Cause → Reason
+reasonBy events cause = let e = eventAt events (cause .touch .at) in record { verdict = Done; cause = cause; kind = e .kind; nexus = e .nexus }
+
+-- a recording, or a number of events, that is refused has none
+abbrev pub noReason : Verdict → Reason
+noReason verdict = record { verdict = verdict; cause = noCause; kind = 0; nexus = 0 }
 
 -- "It reads request 3's session up to a given number of events"
 unfoldable pub why : (nexuses places : ℕ) (file : List ℕ) (events n : ℕ) (supported : Bool) → Reason
 why nexuses places file events n supported =
     let verdict = whyVerdict file events in
-    reasonBy verdict (eventBytes file) (if isTaken verdict then causeOf nexuses places n supported (take events (callsOf file)) else noCause)
+    if isTaken verdict then reasonBy (eventBytes file) (causeOf nexuses places n supported (take events (callsOf file)))
+    else noReason verdict
