@@ -8,11 +8,11 @@ use native.Mathlib.Numerals.{add-one}
 use native.Mathlib.Omega.{arith}
 use lib.ListN.{length, getD, take, replicate, length-take}
 use lib.Seq.{length-sets, take-all}
-use Rattle.wire.proofs.Stores.{sets-shown, take-padded}
+use Rattle.wire.proofs.Stores.{take-padded}
 use Rattle.text.specs.Decimal.{decimal}
 use Rattle.text.specs.Puts.{Put}
-use Rattle.text.proofs.Decimal.{decimal-few}
-use Rattle.text.proofs.Puts.{put-none, put-then}
+use Rattle.text.proofs.Decimal.{decimal-20 as digits-20}
+use Rattle.text.proofs.Puts.{put-none, put-then, put-whole}
 use Rattle.claim.specs.declared.Line.{Line}
 use Rattle.claim.specs.Lines.{rowLine, rowLines}
 use Rattle.claim.specs.Making.{lineOf, lineMost}
@@ -21,14 +21,12 @@ use Rattle.claim.specs.declared.Row.{Row}
 
 -- a number of 64 bits has at most 20 digits
 pub decimal-20 : (n : ℕ) → n < 2 ^ 64 → length (decimal n) ≤ 20
-decimal-20 n h = decimal-few 20 n (omega arith) (omega (arith, h))
+decimal-20 = digits-20
 
 -- a line put from the start of a buffer of zeros
 pub line-made : (text : List ℕ) {bytes : List ℕ} {end : ℕ} → Put (replicate lineMost 0) 0 text end bytes → record { bytes = bytes; length = end } ≡ lineOf text
 unfolding lineOf
-line-made text {bytes} {end} p =
-    let l : end ≡ length text = omega (arith, p .tells) in
-    λ i. record { bytes = (p .holds ∙ sets-shown text (replicate lineMost 0)) i; length = l i }
+line-made text p = let w = put-whole lineMost text p in λ i. record { bytes = w .0 i; length = w .1 i }
 
 -- and taken from it again
 pub line-taken : (text : List ℕ) {line : Line} → line ≡ lineOf text → line .length ≤ lineMost → take (line .length) (line .bytes) ≡ text

@@ -4,15 +4,12 @@ use Prim.Native.Nat.{ℕ, _+_, _≤_}
 use mathlib.Core.Path.{_≡_, refl, sym, ap, ap₂, _∙_}
 use mathlib.Core.Bool.{true}
 use mathlib.Core.List.{List, []}
-use native.Mathlib.Omega.{arith}
 use lib.ListN.{length, drop}
 use Rattle.device.specs.Record.{State}
 use Rattle.device.specs.Selecting.{selectedSet}
-use Rattle.device.proofs.WellFormed.{power-on-well}
-use Rattle.places.proofs.Lengths.{power-places, power-nexuses}
 use Rattle.drive.specs.Checks.{answerWhere}
 use Rattle.drive.specs.declared.Decision.{Decision}
-use Rattle.sizes_16.specs.Sizes.{nexusCount, placeCount}
+use Rattle.sizes_16.specs.Sizes.{nexusCount}
 use Rattle.device_16.specs.Model.{state}
 use Rattle.drive_16.specs.Outcomes.{outcomeBy}
 use Rattle.drive_16.specs.declared.Outcome.{Outcome}
@@ -25,9 +22,8 @@ use Rattle.calls_16.specs.Sights.{sighted}
 use Rattle.calls_16.specs.declared.Sight.{Sight}
 use Rattle.recording.specs.Entries.{entryOf, eventAsked, eventPage, call}
 use Rattle.recording.specs.declared.Entry.{Entry}
-use Rattle.session.proofs.Folds.{adds-starts}
 use Rattle.session_16.specs.Sessions.{start}
-use Rattle.session_16.proofs.Playing.{Playing, next, call-made, call-outcome, quiet-more, call-more}
+use Rattle.session_16.proofs.Playing.{Playing, play-starts, next, call-made, call-outcome, quiet-more, call-more}
 use Rattle.claim.specs.declared.Row.{Row}
 use Rattle.claim.specs.Writes.{wrote}
 use Rattle.claim.specs.Rows.{rowsOf}
@@ -43,16 +39,7 @@ pub record Tallying (pages events : List ℕ) (s : State) (rows : List Row) (res
 
 -- nothing is noted yet
 pub tally-starts : (pages events : List ℕ) {s : State} {rows : List Row} → s ≡ start → rows ≡ rowsOf nexusCount [] → Tallying pages events s rows events
-tally-starts pages events e f = rw (e, f) (record {
-  i = 0;
-  plays = record {
-    adds = adds-starts;
-    known = sym (power-on-well nexusCount placeCount (λ h. omega arith));
-    nexuses = power-nexuses nexusCount placeCount;
-    places = power-places nexusCount placeCount;
-  };
-  noting = noting-starts nexusCount refl;
-})
+tally-starts pages events e f = rw f (record { i = 0; plays = play-starts e; noting = noting-starts nexusCount refl })
 
 -- what an event is found to be, as the code finds it: its sender, the set that this uses, and what became of its write
 pub record Found (s : State) (rest : List ℕ) (e : Entry) (asked : Asked) (sight : Sight) (q : Quiet) (d : Decision) : Type 0 where

@@ -9,6 +9,8 @@ use lib.ListN.{length, drop}
 use Rattle.answer.specs.declared.Answer.{Answer}
 use Rattle.device.specs.Record.{State}
 use Rattle.device.specs.WellFormed.{wellFormed}
+use Rattle.device.proofs.WellFormed.{power-on-well}
+use Rattle.places.proofs.Lengths.{power-places, power-nexuses}
 use Rattle.drive.specs.Calls.{Call, isPowerUp}
 use Rattle.drive.specs.Checks.{answer, answerWhere}
 use Rattle.drive.specs.Effects.{effectBy}
@@ -28,7 +30,8 @@ use Rattle.calls_16.specs.declared.Sight.{Sight}
 use Rattle.calls_16.proofs.Known.{quiet-found}
 use Rattle.recording.specs.Entries.{entryOf, eventAsked, eventPage, call}
 use Rattle.recording.specs.declared.Entry.{Entry}
-use Rattle.session.proofs.Folds.{Adds, adds-more}
+use Rattle.session.proofs.Folds.{Adds, adds-starts, adds-more}
+use Rattle.session_16.specs.Sessions.{start}
 use Rattle.kept.proofs.Calls.{formed-after}
 use Rattle.kept.proofs.Runs.{call-size}
 
@@ -38,6 +41,15 @@ pub record Playing {R : Type 0} (add : ℕ → State → Call → R → R) (page
   pub known : formed ≡ wellFormed s
   pub nexuses : length (s .nexuses) ≡ nexusCount
   pub places : length (s .sets) ≡ placeCount
+
+-- from power-on, whose record is well formed
+pub play-starts : {R : Type 0} {add : ℕ → State → Call → R → R} {pages events : List ℕ} {r₀ : R} {s : State} → s ≡ start → Playing add pages events start r₀ s r₀ true events 0
+play-starts e = rw e (record {
+  adds = adds-starts;
+  known = sym (power-on-well nexusCount placeCount (λ h. omega arith));
+  nexuses = power-nexuses nexusCount placeCount;
+  places = power-places nexusCount placeCount;
+})
 
 module _ {R : Type 0} {add : ℕ → State → Call → R → R} {pages events : List ℕ} {s₀ : State} {r₀ : R} {s : State} {r : R} {formed : Bool} {rest : List ℕ} {i : ℕ}
     (l : Playing add pages events s₀ r₀ s r formed rest i) where

@@ -146,6 +146,10 @@ decimal-few (suc k) n some h =
     positive zero n more p h = absurd (omega (arith, more, h))
     positive (suc k) n more p h = omega arith
 
+-- a number of 64 bits has at most 20
+pub decimal-20 : (n : ℕ) → n < 2 ^ 64 → length (decimal n) ≤ 20
+decimal-20 n h = decimal-few 20 n (omega arith) (omega (arith, h))
+
 -- ---- a number told at most
 
 -- more digits never make a number smaller

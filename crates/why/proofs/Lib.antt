@@ -1,5 +1,6 @@
 pub mod Watching
 pub mod Same
+pub mod Reasons
 pub mod DeedsRooms
 pub mod DeedsActions
 pub mod DeedsStopped

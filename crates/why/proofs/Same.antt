@@ -12,13 +12,14 @@ use lib.Seq.{take-at}
 use Rattle.arrays.specs.Base.{if_then_else_}
 use Rattle.arrays.proofs.Base.{cases, if-true, if-false}
 use Rattle.device.specs.Record.{State, powerOn, setAt}
-use Rattle.device.specs.Selecting.{selected}
+use Rattle.device.specs.Selecting.{selected, selectedSet}
 use Rattle.device.specs.declared.Found.{Found}
 use Rattle.device.specs.declared.Found.the-variants.{At, Nowhere}
 use Rattle.device.specs.declared.Marks.{Marks}
 use Rattle.device.proofs.Selecting.{selected-within}
 use Rattle.places.proofs.Lengths.{power-places}
-use Rattle.drive.specs.Calls.{Call, isPowerUp}
+use Rattle.drive.specs.Calls.{Call, write, isPowerUp}
+use Rattle.drive.specs.Checks.{answer}
 use Rattle.drive.specs.Effects.{effect}
 use Rattle.drive.specs.After.{byNumber, actionsOf, actions, after}
 use Rattle.drive.specs.Runs.{runFrom, run}
@@ -31,7 +32,7 @@ use Rattle.history.proofs.Draws.{draws-few}
 use Rattle.why.specs.declared.Touch.{Touch}
 use Rattle.why.specs.declared.Watch.{Watch}
 use Rattle.why.specs.Touches.{untouched, touchBy}
-use Rattle.why.specs.Causes.{isRaised, raises, before, touchFound, stopper, raised, raiser}
+use Rattle.why.specs.Causes.{isRaised, raises, before, touchFound, stopper, raised, raiser, causeBy, causeOf}
 use Rattle.why.specs.Watching.{renewed, firstNoted, watchedBy, watched, unwatched}
 
 -- ---- a call acted on a place exactly if the place has another number
@@ -177,3 +178,12 @@ watched-is nexuses places n some calls few =
     let left = all .left ∙ ap (λ (t : Trail). t .left) (sym read) in
     let first = all .first ∙ ap (λ (t : Trail). touchFound nexuses places calls (t .first) (λ i. t .left)) (sym read) in
     λ i. record { left = left i; first = first i; another = all .anothers i; vendor = all .vendors i }
+
+-- so a write's cause is found from what the code reads
+pub cause-found : (nexuses places n : ℕ) → 0 < places → (supported : Bool) (calls : List Call) → (places + 2) * length calls < 2 ^ 32 → let s = run nexuses places calls in
+    let w = foldCalls (watched n) 0 (powerOn nexuses places) calls unwatched in
+    causeBy (answer s (write n supported)) (w .first) (w .another) (w .vendor) (selected s n) (selectedSet s n .fields .encryption) ≡ causeOf nexuses places n supported calls
+unfolding causeOf
+cause-found nexuses places n some supported calls few =
+    let s = run nexuses places calls in
+    ap (λ (w : Watch). causeBy (answer s (write n supported)) (w .first) (w .another) (w .vendor) (selected s n) (selectedSet s n .fields .encryption)) (watched-is nexuses places n some calls few)

@@ -8,6 +8,7 @@ use lib.Dec.{eqb}
 use lib.ListN.{take}
 use Rattle.arrays.specs.Base.{if_then_else_}
 use Rattle.answer.specs.Answers.{numberOf}
+use Rattle.answer.specs.declared.Answer.{Answer}
 use Rattle.device.specs.Record.{State, powerOn, nexusAt}
 use Rattle.device.specs.Selecting.{selected, selectedSet}
 use Rattle.device.specs.declared.Found.{Found}
@@ -44,6 +45,14 @@ touchFor number first another vendor used =
 abbrev pub modeFor : (number mode : ℕ) → ℕ
 modeFor number mode = if eqb number 0 || eqb number 12 then mode else 0
 
+-- a write with that answer
+abbrev pub causeBy : Answer → (first another vendor : Touch) → (place mode : ℕ) → Cause
+causeBy a first another vendor place mode = record {
+  answer = a;
+  touch = touchFor (numberOf a) first another vendor (standing place);
+  mode = modeFor (numberOf a) mode;
+}
+
 module _ (nexuses places : ℕ) where
   -- the record before the call at position i; "positions count from 0"
   abbrev pub before : List Call → (i : ℕ) → State
@@ -70,9 +79,4 @@ module _ (nexuses places : ℕ) where
   unfoldable pub causeOf : ℕ → (supported : Bool) → List Call → Cause
   causeOf n supported calls =
       let s = run nexuses places calls in
-      let a = answer s (write n supported) in
-      record {
-        answer = a;
-        touch = touchFor (numberOf a) (stopper n calls) (raiser (λ m. m .another) n calls) (raiser (λ m. m .vendor) n calls) (standing (selected s n));
-        mode = modeFor (numberOf a) (selectedSet s n .fields .encryption);
-      }
+      causeBy (answer s (write n supported)) (stopper n calls) (raiser (λ m. m .another) n calls) (raiser (λ m. m .vendor) n calls) (selected s n) (selectedSet s n .fields .encryption)

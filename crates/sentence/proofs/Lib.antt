@@ -1,0 +1,5 @@
+pub mod Fits
+pub mod Names
+pub mod Ways
+pub mod Making
+pub mod Worked

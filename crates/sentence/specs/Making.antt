@@ -1,0 +1,23 @@
+-- How the code makes the text of a reason: no rule, but what its promises say.
+use Prim.Native.Nat.{ℕ, _-_}
+use Prim.Native.String.{String}
+use mathlib.Core.List.{List, _++_}
+use lib.ListN.{length, replicate}
+use Rattle.wire.specs.Buffers.{padded}
+use Rattle.text.specs.Characters.{bytesOf}
+use Rattle.sentence.specs.declared.Lines.{Lines}
+use Rattle.sentence.specs.declared.Name.{Name}
+
+abbrev pub linesMost : ℕ
+linesMost = 256
+
+-- lines by themselves: their text, and zeros after it
+unfoldable pub linesOf : List ℕ → Lines
+linesOf text = record { bytes = padded linesMost text; length = length text }
+
+-- a name, and spaces after it
+abbrev pub nameMost : ℕ
+nameMost = 23
+
+unfoldable pub nameOf : String → Name
+nameOf name = record { bytes = bytesOf name ++ replicate (nameMost - length (bytesOf name)) 32; length = length (bytesOf name) }

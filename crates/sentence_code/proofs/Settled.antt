@@ -1,0 +1,7 @@
+-- Every public function's promise settles its answer.
+use Rattle.settled.specs.Settles.{SettlesAnswer, same}
+use Rattle.sentence_code.proofs.tell.Reads as tell
+use Rattle.sentence_code.proofs.tell.Kinds as tell-kinds
+
+pub tell-settles : SettlesAnswer 0 tell-kinds.ps tell-kinds.r tell.Post
+tell-settles κs a x y s t p q = same (p .0) (q .0)
