@@ -125,3 +125,7 @@ unfoldable pub reasonText : Reason → List ℕ
 reasonText reason =
     let number = numberOf (reason .cause .answer) in
     firstLine number (reason .kind) (positionOf (reason .cause .touch .at)) ++ secondLine number reason
+
+-- a write of a recording, by its position and what is said of it
+unfoldable pub writeText : (position : ℕ) → Reason → List ℕ
+writeText position reason = told "" position ++ bytesOf " " ++ secondLine (numberOf (reason .cause .answer)) reason

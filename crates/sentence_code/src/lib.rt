@@ -11,7 +11,7 @@ ghost use Prim.Native.Nat.{_+_, _≤_};
 ghost use lib.ListN.{length};
 ghost use Rattle.text.specs.Decimal.{decimal};
 ghost use Rattle.text.specs.Puts.{Put};
-ghost use Rattle.sentence.specs.Telling.{positionOf, kindName, kindWords, hasNexus, nexusWords, eventWords, deedWords, touchWords, blockWords, allowedWords, unsupportedWords, sentenceBy, stopperWords, firstLine, reasonText};
+ghost use Rattle.sentence.specs.Telling.{positionOf, kindName, kindWords, hasNexus, nexusWords, eventWords, deedWords, touchWords, blockWords, allowedWords, unsupportedWords, sentenceBy, stopperWords, firstLine, reasonText, writeText};
 ghost use Rattle.sentence.specs.Making.{linesMost, linesOf, nameMost, nameOf};
 
 // The name of each kind, by its number.
@@ -270,6 +270,21 @@ pub fn tell(reason: Reason) -> Lines
     let found = touch.at;
     let row = answer_code::row_of(answer);
     let second = put_first(&mut bytes, row.number, reason.kind, position_of(found));
+    let end = put_sentence(&mut bytes, second, row.number, reason);
+    let length = put_words(&mut bytes, end, b"\n");
+    Lines { bytes, length }
+}
+
+// A write of a recording, by its position and what is said of it.
+pub fn tell_write(position: usize, reason: Reason) -> Lines
+    ensures { λ r. ⌜ (r ≡ linesOf (writeText position reason)) × (r .length ≤ linesMost) ⌝ }
+{
+    let mut bytes = [0u8; LINES_MOST];
+    let cause = reason.cause;
+    let answer = cause.answer;
+    let row = answer_code::row_of(answer);
+    let space = put_told(&mut bytes, 0, b"", position as u64);
+    let second = put_words(&mut bytes, space, b" ");
     let end = put_sentence(&mut bytes, second, row.number, reason);
     let length = put_words(&mut bytes, end, b"\n");
     Lines { bytes, length }
