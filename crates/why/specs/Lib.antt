@@ -3,3 +3,4 @@ pub mod Causes
 pub mod Reasons
 pub mod Watching
 pub mod Deeds
+pub mod Truths
