@@ -126,3 +126,13 @@ pub use Rattle.claim_code.proofs.Settled.{became-settles as claim-code-became-s
 pub use Rattle.claim_code.proofs.Settled.{row-of-nexus-settles as claim-code-row-of-nexus-settles}
 pub use Rattle.claim_code.proofs.Settled.{row-line-settles as claim-code-row-line-settles}
 pub use Rattle.claim_code.proofs.Settled.{total-line-settles as claim-code-total-line-settles}
+-- crate why_code
+pub use Rattle.why_code.proofs.Settled.{deed-of-settles as why-code-deed-of-settles}
+pub use Rattle.why_code.proofs.Settled.{either-settles as why-code-either-settles}
+pub use Rattle.why_code.proofs.Settled.{note-first-settles as why-code-note-first-settles}
+pub use Rattle.why_code.proofs.Settled.{touch-for-settles as why-code-touch-for-settles}
+pub use Rattle.why_code.proofs.Settled.{mode-for-settles as why-code-mode-for-settles}
+pub use Rattle.why_code.proofs.Settled.{event-at-settles as why-code-event-at-settles}
+-- crate sentence_code
+pub use Rattle.sentence_code.proofs.Settled.{tell-settles as sentence-code-tell-settles}
+pub use Rattle.sentence_code.proofs.Settled.{tell-write-settles as sentence-code-tell-write-settles}

@@ -23,6 +23,7 @@ pub use Rattle.places_16.proofs.Settled.{release-by-settles as places-16-releas
 pub use Rattle.drive_16.proofs.Settled.{power-on-settles as drive-16-power-on-settles}
 pub use Rattle.drive_16.proofs.Settled.{security-in-known-settles as drive-16-security-in-known-settles}
 pub use Rattle.drive_16.proofs.Settled.{security-in-settles as drive-16-security-in-settles}
+pub use Rattle.drive_16.proofs.Settled.{check-page-settles as drive-16-check-page-settles}
 pub use Rattle.drive_16.proofs.Settled.{security-out-known-settles as drive-16-security-out-known-settles}
 pub use Rattle.drive_16.proofs.Settled.{security-out-settles as drive-16-security-out-settles}
 pub use Rattle.drive_16.proofs.Settled.{write-known-settles as drive-16-write-known-settles}
@@ -58,3 +59,6 @@ pub use Rattle.batch_16.proofs.Settled.{batch-settles as batch-16-batch-settles
 -- crate claim_16
 pub use Rattle.claim_16.proofs.Settled.{tally-settles as claim-16-tally-settles}
 pub use Rattle.claim_16.proofs.Settled.{claim-settles as claim-16-claim-settles}
+-- crate why_16
+pub use Rattle.why_16.proofs.Settled.{follow-settles as why-16-follow-settles}
+pub use Rattle.why_16.proofs.Settled.{why-settles as why-16-why-settles}

@@ -6,3 +6,4 @@ pub mod DeedsActions
 pub mod DeedsStopped
 pub mod DeedsRaised
 pub mod Deeds
+pub mod Worked

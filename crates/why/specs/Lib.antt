@@ -4,3 +4,4 @@ pub mod Reasons
 pub mod Watching
 pub mod Deeds
 pub mod Truths
+pub mod Claims
