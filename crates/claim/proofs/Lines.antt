@@ -1,6 +1,6 @@
 -- Lines, as the code puts them.
 -- Assumes nothing.
-use Prim.Native.Nat.{ℕ, zero, suc, _+_, _*_, _^_, _≤_, _<_}
+use Prim.Native.Nat.{ℕ, zero, suc, _+_, _*_, _≤_, _<_}
 use mathlib.Core.Path.{_≡_, refl, sym, ap, subst, _∙_}
 use mathlib.Core.List.{List, [], _∷_, _++_, append-assoc, append-nil}
 use native.Mathlib.Nat.{not-suc-le-zero, le-of-suc-le-suc, zero-add, min-le-left}
@@ -9,19 +9,13 @@ use native.Mathlib.Omega.{arith}
 use lib.ListN.{length, getD, take, replicate, length-take}
 use lib.Seq.{length-sets, take-all}
 use Rattle.wire.proofs.Stores.{take-padded}
-use Rattle.text.specs.Decimal.{decimal}
 use Rattle.text.specs.Puts.{Put}
-use Rattle.text.proofs.Decimal.{decimal-20 as digits-20}
 use Rattle.text.proofs.Puts.{put-none, put-then, put-whole}
 use Rattle.claim.specs.declared.Line.{Line}
 use Rattle.claim.specs.Lines.{rowLine, rowLines}
 use Rattle.claim.specs.Making.{lineOf, lineMost}
 use Rattle.claim.specs.Rows.{noWrites}
 use Rattle.claim.specs.declared.Row.{Row}
-
--- a number of 64 bits has at most 20 digits
-pub decimal-20 : (n : ℕ) → n < 2 ^ 64 → length (decimal n) ≤ 20
-decimal-20 = digits-20
 
 -- a line put from the start of a buffer of zeros
 pub line-made : (text : List ℕ) {bytes : List ℕ} {end : ℕ} → Put (replicate lineMost 0) 0 text end bytes → record { bytes = bytes; length = end } ≡ lineOf text

@@ -1,7 +1,7 @@
 -- A recording cut, and a session of two parts.
 -- Assumes nothing.
 use Prim.Native.Nat.{ℕ, suc, _+_, _≤_}
-use mathlib.Core.Path.{_≡_, sym, ap, ap₂, subst, _∙_}
+use mathlib.Core.Path.{_≡_, sym, ap, subst, _∙_}
 use mathlib.Core.Bool.{true}
 use mathlib.Core.List.{List, [], _∷_, _++_}
 use native.Mathlib.Omega.{arith}
@@ -9,13 +9,13 @@ use native.Mathlib.Nat.{mul-le-mul-right, add-mul}
 use lib.ListN.{take, drop, take-append-drop}
 use Rattle.wire.proofs.Bytes.{Below}
 use Rattle.device.specs.Record.{State, powerOn}
-use Rattle.places.proofs.Lengths.{power-places, power-nexuses}
 use Rattle.drive.specs.Calls.{Call, powerUp}
-use Rattle.drive.specs.Checks.{answer, checks}
-use Rattle.drive.specs.Effects.{effectBy}
-use Rattle.drive.specs.After.{changedBy, carriedOut, after}
+use Rattle.drive.specs.Effects.{effect}
+use Rattle.drive.specs.After.{byNumber, after}
 use Rattle.drive.specs.Runs.{runFrom}
+use Rattle.drive.proofs.Effects.{restarts-power}
 use Rattle.history.proofs.Runs.{run-size}
+use Rattle.history.proofs.Cut.{restarted}
 use Rattle.recording.specs.Files.{header, soundFile, callsOf, cutAfter}
 use Rattle.recording.proofs.Made.{cut-calls}
 use Rattle.claim.specs.declared.Row.{Row}
@@ -63,10 +63,9 @@ cut-claims nexuses places file bytes sound k h row =
 
 -- power-on gives the record of power-on, whatever was before
 anew : (nexuses places : ℕ) (first : List Call) → after (runFrom (powerOn nexuses places) first) powerUp ≡ powerOn nexuses places
-unfolding answer checks effectBy changedBy carriedOut
 anew nexuses places first =
-    let size = run-size first (powerOn nexuses places) in
-    ap₂ powerOn (size .nexuses ∙ power-nexuses nexuses places) (size .places ∙ power-places nexuses places)
+    let s = runFrom (powerOn nexuses places) first in
+    restarted nexuses places byNumber s (effect s powerUp) (run-size first (powerOn nexuses places)) (restarts-power s powerUp)
 
 -- A session whose second part starts with power-on claims what its parts claim, each by itself.
 pub parts-add-up : (nexuses places rate : ℕ) (first later : List Call) → let start = powerOn nexuses places in

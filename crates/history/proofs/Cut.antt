@@ -57,7 +57,7 @@ module _ (nexuses places : ℕ) where
   Sized s = SameSize (powerOn nexuses places) s
 
   -- power-on makes it anew
-  restarted : (rule : Telling) (s : State) (e : Effect) → Sized s → isRestart e ≡ true → carriedOut rule s e ≡ powerOn nexuses places
+  pub restarted : (rule : Telling) (s : State) (e : Effect) → Sized s → isRestart e ≡ true → carriedOut rule s e ≡ powerOn nexuses places
   restarted rule s e z t = anew rule s e t ∙ ap₂ powerOn (z .nexuses ∙ power-nexuses nexuses places) (z .places ∙ power-places nexuses places)
 
   -- a cut, or no power-on at all

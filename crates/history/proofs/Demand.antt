@@ -23,7 +23,7 @@ use Rattle.history.proofs.Cut.{Cut, cut}
 -- ---- what comes before the latest power-on
 
 -- a latest page stays one with more calls before
-unfoldable latest-after : (n : ℕ) (a l k : List Did) → k ≡ a ++ l → Latest n l → Latest n k
+unfoldable pub latest-after : (n : ℕ) (a l k : List Did) → k ≡ a ++ l → Latest n l → Latest n k
 latest-after n a l k e x = record {
   before = a ++ x .before;
   page = x .page;

@@ -61,7 +61,7 @@ page-did n s calls x = record {
 }
 
 -- a history is as long as its calls
-ran-length : (l : List Call) (s : State) → length (ranFrom s l) ≡ length l
+pub ran-length : (l : List Call) (s : State) → length (ranFrom s l) ≡ length l
 unfolding ranFrom
 ran-length [] s = refl
 ran-length (c ∷ l) s = ap suc (ran-length l (after s c))

@@ -11,9 +11,9 @@ use lib.Seq.{length-take-le}
 use borrow.Author.Tests.{leb-true, eqb-true}
 use Rattle.arrays.proofs.Base.{each-holds, and-left, and-right}
 use Rattle.recording.specs.Entries.{entries, allSound, soundRun}
-use Rattle.recording.specs.Files.{header, headed, eventBytes, pageBytes, soundFile}
+use Rattle.recording.specs.Files.{header, headed, eventBytes, pageBytes, soundFile, callsOf}
 use Rattle.recording.specs.Soundness.{Headed}
-use Rattle.recording.proofs.Entries.{run-told}
+use Rattle.recording.proofs.Entries.{run-told, length-calls}
 
 module _ (file : List ℕ) where
   -- what a header with right numbers tells
@@ -52,3 +52,7 @@ module _ (file : List ℕ) where
 
   pub length-pages : length (pageBytes file) ≡ length file - header file .pagesFrom
   length-pages = length-drop (header file .pagesFrom) file
+
+-- a sound recording has as many calls as its header says
+pub sound-count : (file : List ℕ) → soundFile file ≡ true → length (callsOf file) ≡ header file .eventCount
+sound-count file sound = omega (arith, length-calls (pageBytes file) (eventBytes file), length-events file (sound-header file sound))

@@ -1,8 +1,8 @@
 -- A loop over events that adds something up: what is left to add gives what all gives.
 -- Assumes nothing.
-use Prim.Native.Nat.{ℕ, _+_, _*_, _≤_, _<_}
+use Prim.Native.Nat.{ℕ, suc, _+_, _*_, _≤_, _<_}
 use mathlib.Core.Path.{_≡_, refl, sym, ap, _∙_}
-use mathlib.Core.List.{List}
+use mathlib.Core.List.{List, [], _∷_, _++_}
 use native.Mathlib.Numerals.{add-one}
 use native.Mathlib.Omega.{arith}
 use lib.ListN.{length, drop, length-drop}
@@ -44,3 +44,10 @@ module _ {R : Type 0} {add : ℕ → State → Call → R → R} {pages events :
   adds-ends {s} {r} {rest} {i} l h =
       let none = calls-none pages rest h in
       (sym (ap (λ (x : List Call). foldCalls add i s x r) none) ∙ l .gives, sym (ap (runFrom s) none) ∙ l .runs)
+
+-- what calls add up to, one sequence after another
+pub fold-append : {R : Type 0} (add : ℕ → State → Call → R → R) (i : ℕ) (s : State) (a b : List Call) (r : R) (k : ℕ) → i + length a ≡ k
+    → foldCalls add i s (a ++ b) r ≡ foldCalls add k (runFrom s a) b (foldCalls add i s a r)
+unfolding foldCalls runFrom
+fold-append add i s [] b r k e = let here : i ≡ k = omega (arith, e) in ap (λ j. foldCalls add j s b r) here
+fold-append add i s (c ∷ a) b r k e = fold-append add (suc i) (after s c) a b (add i s c r) k (omega (arith, e))

@@ -16,11 +16,10 @@ use Rattle.drive.specs.Checks.{answer}
 use Rattle.drive.specs.After.{after}
 use Rattle.drive.specs.Runs.{runFrom}
 use Rattle.recording.specs.Verdicts.{verdictNumber}
-use Rattle.recording.specs.Files.{header, soundFile, fileVerdict, callsOf, eventBytes, pageBytes}
+use Rattle.recording.specs.Files.{header, soundFile, fileVerdict, callsOf}
 use Rattle.recording.specs.declared.Verdict.{Verdict}
 use Rattle.recording.specs.declared.Verdict.the-variants.{Done, RecordingWrong}
-use Rattle.recording.proofs.Entries.{length-calls}
-use Rattle.recording.proofs.Files.{sound-header, length-events}
+use Rattle.recording.proofs.Files.{sound-count}
 use Rattle.session.specs.Answers.{fourOf, answersFrom, answerBytes}
 use Rattle.session.specs.Sessions.{recordAfter, bufferAfter}
 use Rattle.session.proofs.OneByOne.{length-answers}
@@ -51,12 +50,11 @@ module _ (s : State) (file buffer : List ℕ) where
   pub file-taken : soundFile file ≡ true → Taken s file buffer
   file-taken t =
       let e : fileVerdict file ≡ Done = if-true (soundFile file) Done RecordingWrong t in
-      let many : length (callsOf file) ≡ header file .eventCount = omega (arith, length-calls (pageBytes file) (eventBytes file), length-events file (sound-header file t)) in
       record {
         number = ap verdictNumber e;
         left = ap (λ (v : Verdict). recordAfter v s (callsOf file)) e;
         told = ap (λ (v : Verdict). bufferAfter v s (callsOf file) buffer) e;
-        counted = length-answers s (callsOf file) ∙ ap (λ (n : ℕ). 4 * n) many;
+        counted = length-answers s (callsOf file) ∙ ap (λ (n : ℕ). 4 * n) (sound-count file t);
       }
 
 -- The four bytes of each event are the answer that the drive gives it at that point of the session.

@@ -39,7 +39,7 @@ use Rattle.why.specs.Deeds.{isOther, isNobody, actsBy, RaisedBy}
 
 -- ---- a nexus keeps its place while no other's call acts on it
 
-acts-stayed : (n : ℕ) (l : List Action) (s : State) → Foreign n l → hits (selected s n) l ≡ false → selected (acts s l) n ≡ selected s n
+pub acts-stayed : (n : ℕ) (l : List Action) (s : State) → Foreign n l → hits (selected s n) l ≡ false → selected (acts s l) n ≡ selected s n
 unfolding acts hits
 acts-stayed n [] s o h = refl
 acts-stayed n (a ∷ l) s o h =

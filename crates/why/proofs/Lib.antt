@@ -6,4 +6,8 @@ pub mod DeedsActions
 pub mod DeedsStopped
 pub mod DeedsRaised
 pub mod Deeds
+pub mod Raisers
+pub mod Stoppers
+pub mod Truth
 pub mod Worked
+pub mod Parts

@@ -55,7 +55,7 @@ module _ (nexuses places n : ℕ) where
 
   -- the call that comes after these ones: the records before and after it
   module _ (done : List Call) (call : Call) (later : List Call) {calls : List Call} {i : ℕ} {s : State} (parts : calls ≡ done ++ call ∷ later) (counted : length done ≡ i) (here : run nexuses places done ≡ s) where
-    at-call : before nexuses places calls i ≡ s
+    pub at-call : before nexuses places calls i ≡ s
     at-call = ap (run nexuses places) (ap (take i) parts ∙ take-at done (call ∷ later) i counted) ∙ here
 
     past-call : before nexuses places calls (suc i) ≡ after s call
@@ -68,7 +68,7 @@ module _ (nexuses places n : ℕ) where
         ∙ ap (λ t. after t call) here
 
     -- what it did in a place
-    touch-here : (place : ℕ → ℕ) → touchFound nexuses places calls (At i) place ≡ touchBy i s (after s call) (place i)
+    pub touch-here : (place : ℕ → ℕ) → touchFound nexuses places calls (At i) place ≡ touchBy i s (after s call) (place i)
     touch-here place = ap₂ (λ x y. touchBy i x y (place i)) at-call past-call
 
     -- a flag that it raises is noted
@@ -157,7 +157,7 @@ module _ (nexuses places n : ℕ) where
 -- ---- since power-on
 
 -- so few calls draw no number twice
-few-calm : (nexuses places : ℕ) (calls : List Call) → (places + 2) * length calls < 2 ^ 32 → Calm 0 (powerOn nexuses places) calls
+pub few-calm : (nexuses places : ℕ) (calls : List Call) → (places + 2) * length calls < 2 ^ 32 → Calm 0 (powerOn nexuses places) calls
 few-calm nexuses places calls few first later e =
     let shorter : length first ≤ length calls = omega (arith, length-append first later, ap length e) in
     omega (arith, draws-few nexuses places first, mul-le-mul-left (places + 2) shorter, few)

@@ -1,22 +1,31 @@
--- What is claimed of a reason (proofs/Stoppers, Raisers, Parts): "The reason must be the true one".
+-- What is claimed of a reason (proofs/Stoppers, Raisers, Truth, Parts): "The reason must be the true one".
 use Prim.Native.Nat.{ℕ, suc, _+_, _≤_, _<_}
 use mathlib.Core.Path.{_≡_}
 use mathlib.Core.Bool.{Bool, true, false}
 use mathlib.Core.List.{List}
-use lib.ListN.{length, getD}
+use mathlib.Core.Logic.{_⊎_}
+use lib.ListN.{length, getD, take}
+use Rattle.answer.specs.Answers.{numberOf}
+use Rattle.parameters.specs.Codes.{encrypt}
 use Rattle.device.specs.Record.{State, nexusAt}
 use Rattle.device.specs.Selecting.{selected, selectedSet}
 use Rattle.device.specs.declared.Found.{Found}
 use Rattle.device.specs.declared.Found.the-variants.{At, Nowhere}
 use Rattle.device.specs.declared.Marks.{Marks}
 use Rattle.marks.specs.declared.Actor.{Actor}
-use Rattle.drive.specs.Calls.{Call, powerUp}
+use Rattle.drive.specs.Calls.{Call, powerUp, write}
+use Rattle.drive.specs.Checks.{answer}
 use Rattle.drive.specs.Effects.{effect}
+use Rattle.drive.specs.Runs.{run}
+use Rattle.recording.specs.Entries.{call}
+use Rattle.recording.specs.Files.{eventBytes, pageBytes, callsOf}
 use Rattle.history.specs.History.{reading, Latest, placeLeft, First}
 use Rattle.why.specs.declared.Touch.{Touch}
 use Rattle.why.specs.declared.Cause.{Cause}
+use Rattle.why.specs.declared.Reason.{Reason}
 use Rattle.why.specs.Causes.{before}
-use Rattle.why.specs.Deeds.{StoppedBy, deedTo, RaisedBy}
+use Rattle.why.specs.Reasons.{eventAt}
+use Rattle.why.specs.Deeds.{StoppedBy, deedTo, isOther, isNobody, RaisedBy}
 
 -- the call at a position
 abbrev pub callAt : List Call → (i : ℕ) → Call
@@ -55,6 +64,20 @@ pub record InUse (s : State) (n : ℕ) (cause : Cause) : Type 0 where
   pub untold : cause .touch .at ≡ Nowhere
   pub place : cause .touch .place ≡ selected s n
   pub mode : cause .mode ≡ selectedSet s n .fields .encryption
+
+-- ---- a recording's reason, after so many events
+
+-- "the write, tried at that point, gives that answer"; what is told besides is true of the calls up to there; and the kind and nexus told are
+-- those that the recording has of the call at that position
+pub record TrueReason (nexuses places : ℕ) (file : List ℕ) (events n : ℕ) (supported : Bool) (r : Reason) : Type 0 where
+  pub answered : r .cause .answer ≡ answer (run nexuses places (take events (callsOf file))) (write n supported)
+  pub stopped : numberOf (r .cause .answer) ≡ 11 → Stops nexuses places n (take events (callsOf file)) (r .cause .touch)
+  pub anothers : numberOf (r .cause .answer) ≡ 3 → Raises nexuses places n (take events (callsOf file)) (r .cause .touch) (λ m. m .another) (isOther n)
+  pub vendors : numberOf (r .cause .answer) ≡ 4 → Raises nexuses places n (take events (callsOf file)) (r .cause .touch) (λ m. m .vendor) isNobody
+  pub used : (numberOf (r .cause .answer) ≡ 0) ⊎ (numberOf (r .cause .answer) ≡ 12) → InUse (run nexuses places (take events (callsOf file))) n (r .cause)
+  pub unusable : numberOf (r .cause .answer) ≡ 12 → (r .cause .mode ≡ encrypt) × (supported ≡ false)
+  pub recorded : (position : ℕ) → r .cause .touch .at ≡ At position → position < events → let e = eventAt (eventBytes file) (At position) in
+      (r .kind ≡ e .kind) × (r .nexus ≡ e .nexus) × (call (pageBytes file) e ≡ callAt (take events (callsOf file)) position)
 
 -- ---- a power-on in the middle
 

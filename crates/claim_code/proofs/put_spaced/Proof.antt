@@ -5,7 +5,7 @@ use native.Mathlib.Omega.{arith}
 use Rattle.text.specs.Characters.{bytesOf}
 use Rattle.text.specs.Decimal.{decimal}
 use Rattle.text.proofs.Puts.{put-is, put-then}
-use Rattle.claim.proofs.Lines.{decimal-20}
+use Rattle.text.proofs.Decimal.{decimal-20}
 use Rattle.claim_code.proofs.put_spaced.Statement.{statement}
 use Rattle.claim_code.proofs.put_spaced.Tie as tie
 

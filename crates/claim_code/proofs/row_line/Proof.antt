@@ -6,7 +6,8 @@ use Rattle.text.specs.Characters.{bytesOf}
 use Rattle.text.specs.Decimal.{decimal}
 use Rattle.text.proofs.Puts.{put-is, put-then}
 use Rattle.claim.specs.Lines.{rowLine}
-use Rattle.claim.proofs.Lines.{decimal-20, line-made}
+use Rattle.text.proofs.Decimal.{decimal-20}
+use Rattle.claim.proofs.Lines.{line-made}
 use Rattle.claim_code.proofs.row_line.Statement.{statement}
 use Rattle.claim_code.proofs.row_line.Tie as tie
 
