@@ -166,3 +166,26 @@ pub use Rattle.batch.proofs.Unformed.{unformed-batch, mended-batch}
 -- Batches computed: 0, 1, 63, 64 and 65 events with buffers a byte short, just long enough and a byte longer, from a record that is well
 -- formed and from one a bit away; and each rule.
 pub use Rattle.batch.proofs.Worked.{formed-table, unformed-table, mended-table, rules-table, limits-worked, rules-worked, moved-computed}
+-- Document 02, request 8: 22 for a file that isn't sound, then 19 for more events than it has, then a reason.
+pub use Rattle.why.proofs.Reasons.{why-wrong, why-above, why-taken}
+-- The reason is the true one: the write, tried after those events, gives the answer; for 11 the call told is the first after the lock that
+-- acted on the place which the lock left the nexus using; for 3 and 4 the call told raised the flag, and it is pending since; the kind and
+-- nexus told are those recorded there.
+pub use Rattle.why.proofs.Truth.{why-true}
+-- The parts of it, of any calls since power-on.
+pub use Rattle.why.proofs.Stoppers.{stopper-true, kind-recorded}
+pub use Rattle.why.proofs.Raisers.{another-raised, vendor-raised, used-told, unusable-told, never-unformed, above-told}
+-- What touches the set of a locked nexus is an event that released it, or another nexus's ALL page: never an eviction, never its own page.
+pub use Rattle.why.proofs.DeedsStopped.{stopped-by, never-evicted}
+-- What raises a flag acted on the place whose set the nexus used; the nexus was registered, and another acted, or nobody.
+pub use Rattle.why.proofs.DeedsRaised.{another-touches, vendor-touches}
+-- What a call did to a place, told by what the place held before and holds after, is what its actions did there.
+pub use Rattle.why.proofs.Deeds.{deed-by-action, acted-some, acted-none}
+-- What the code reads, by the numbers of places, is what is defined by actions.
+pub use Rattle.why.proofs.Same.{watched-is, cause-found}
+-- A power-on starts the reading again; events after those asked for are not read.
+pub use Rattle.why.proofs.Parts.{starts-again, later-events-unread}
+-- Reasons computed, and their two lines to the character; every text has room.
+pub use Rattle.why.proofs.Worked.{table as reason-table, refusals as reason-refusals, worked as reasons-proved}
+pub use Rattle.sentence.proofs.Worked.{table-told, modes-told, events-told, others-told, nexuses-recorded}
+pub use Rattle.sentence.proofs.Fits.{text-fits}

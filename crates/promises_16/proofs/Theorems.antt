@@ -5,7 +5,7 @@ use mathlib.Core.Bool.{Bool, true}
 use mathlib.Core.List.{List, [], _∷_, _++_}
 use mathlib.Core.Path.{_≡_, refl, sym, ap, subst, _∙_}
 use lib.Dec.{lit<, lit≤}
-use lib.ListN.{length, drop}
+use lib.ListN.{length, take, drop}
 use Rattle.wire.specs.Parts.{joined}
 use Rattle.wire.proofs.Bytes.{Below}
 use Rattle.page.specs.Check.{checked}
@@ -23,9 +23,9 @@ use Rattle.history.proofs.Demand.{demand3-run}
 use Rattle.sizes_16.specs.Sizes.{nexusCount, placeCount}
 use Rattle.device_16.specs.Model.{state, device}
 use Rattle.device_16.specs.declared.Device.{Device}
-use Rattle.drive_16.specs.Outcomes.{outcomeBy, outcome, poweredOn}
+use Rattle.drive_16.specs.Outcomes.{outcomeBy, outcome, poweredOn, writeOutcomeBy, writeOutcome}
 use Rattle.recording.specs.Entries.{calls}
-use Rattle.recording.specs.Files.{soundFile, fileVerdict, eventBytes, callsOf, fileOf}
+use Rattle.recording.specs.Files.{header, soundFile, fileVerdict, eventBytes, callsOf, fileOf}
 use Rattle.session.specs.Answers.{fourOf, answersFrom, answerBytes}
 use Rattle.session.proofs.Replayed.{file-taken}
 use Rattle.session_16.specs.Sessions.{start, Gives}
@@ -39,6 +39,10 @@ use Rattle.claim.specs.Files.{rateMost, claimText}
 use Rattle.claim.specs.Claimable.{Claimable}
 use Rattle.claim.proofs.Exactly.{written, claimed-exactly}
 use Rattle.claim.proofs.Long.{text-few}
+use Rattle.why.specs.declared.Reason.{Reason}
+use Rattle.why.specs.Reasons.{why}
+use Rattle.why.specs.Truths.{TrueReason}
+use Rattle.why.proofs.Truth.{why-true}
 use Rattle.promises_16.specs.Runs.{leaves, tells, sincePowerOn}
 -- What this model writes as a record's bytes is loaded as the same record; bytes that are loaded, written again, are the same bytes; a
 -- load takes bytes exactly if their count is right and each yes/no byte is 0 or 1; a refused one carries nothing.
@@ -118,3 +122,16 @@ pub batch-as-replay : (events pages buffer : List ℕ) {r x : Ran} {after end : 
 batch-as-replay events pages buffer b g whole room small =
     let same = batch-as-file start events pages buffer whole room small in
     (b .ran ∙ (λ i. record { device = device (same .left i); verdict = same .verdict i }) ∙ sym (g .ran), b .told ∙ same .told ∙ sym (g .told))
+
+-- A reason, as its promise states it, of a recording that is taken: it is the true one,
+pub why-here : (file : List ℕ) → Below file → soundFile file ≡ true → (events : ℕ) → events ≤ header file .eventCount → (n : ℕ) (supported : Bool) {r : Reason}
+    → r ≡ why nexusCount placeCount file events n supported → TrueReason nexusCount placeCount file events n supported r
+why-here file bytes sound events h n supported e =
+    subst (TrueReason nexusCount placeCount file events n supported) (sym e) (why-true nexusCount placeCount (lit< tt) (lit< tt) (lit≤ tt) file bytes sound events h n supported)
+
+-- and its answer is the one that this model's write gives after those events, each sent as a call by itself.
+pub tried-here : (file : List ℕ) → Below file → soundFile file ≡ true → (events : ℕ) → events ≤ header file .eventCount → (n : ℕ) (supported : Bool) {r : Reason}
+    → r ≡ why nexusCount placeCount file events n supported → r .cause .answer ≡ writeOutcome (state (sincePowerOn (take events (callsOf file)))) n supported .answer
+unfolding writeOutcomeBy
+tried-here file bytes sound events h n supported e =
+    why-here file bytes sound events h n supported e .answered ∙ ap (λ (s : State). answer s (write n supported)) (sym (runs-so (take events (callsOf file))))
