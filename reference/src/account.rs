@@ -1,5 +1,5 @@
-//! The account a call gives of itself: which rules of 01 and 02 were at work, for the comparison's counts and
-//! its reports. It never decides an answer.
+//! The account a call gives of itself: which rules of 01 and 02 were at work, for the comparison's counts, its reports
+//! and the reasons of 02's request 8. It never decides an answer.
 
 use crate::recording::BrokenByBatch;
 use crate::set_page::Broken;
@@ -236,6 +236,12 @@ impl Account {
     /// Notes a rule about a place and a number.
     pub fn note_number(&mut self, rule: Rule, place: usize, number: u32) {
         self.steps.push(Step { rule, place: Some(place), nexus: None, number: Some(number) });
+    }
+
+    /// Whether the call established a set in a place or released the one there.
+    pub fn acted_on(&self, place: usize) -> bool {
+        let acts = [Rule::Releases, Rule::EstablishesWithKey, Rule::EstablishesWithoutKey];
+        self.steps.iter().any(|step| acts.contains(&step.rule) && step.place == Some(place))
     }
 
     /// Whether a rule was at work.

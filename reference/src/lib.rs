@@ -1,6 +1,7 @@
-//! A second, independent account of document 01, and of requests 1 to 3, 5 and 11 of document 02: the encryption
-//! controller of a tape drive, batches of events, the replay of recorded sessions and their claim, and the programs that
-//! compare them with others on a pipe. Host tools beside it: recordings as text, and the page of a claim.
+//! A second, independent account of document 01, and of requests 1 to 3, 5, 8 and 11 of document 02: the encryption
+//! controller of a tape drive, batches of events, the replay of recorded sessions, the reasons of their writes and their
+//! claim, and the programs that compare them with others on a pipe. Host tools beside it: recordings as text, and the page
+//! of a claim.
 
 #![forbid(unsafe_code)]
 
@@ -13,6 +14,7 @@ pub mod codes;
 pub mod comparison;
 pub mod controller;
 pub mod descriptors;
+pub mod digits;
 mod flags;
 pub mod hex;
 pub mod names;
@@ -28,3 +30,4 @@ pub mod sizes;
 pub mod status_page;
 pub mod stream;
 pub mod well_formed;
+pub mod why;

@@ -35,10 +35,11 @@ why-true nexuses places some room size file bytes sound events h n supported =
       vendors = λ e. vendor-raised nexuses places room calls few n supported e;
       used = λ e. used-told nexuses places n supported calls e;
       unusable = λ e. unusable-told nexuses places n supported calls e;
-      recorded = λ position e within.
-          (ap (λ f. eventAt (eventBytes file) f .kind) e,
-           ap (λ f. eventAt (eventBytes file) f .nexus) e,
-           kind-recorded file sound position (omega (arith, within, h)) ∙ sym (getD-take events (callsOf file) position powerUp within));
+      recorded = λ position e within. (
+        ap (λ f. eventAt (eventBytes file) f .kind) e,
+        ap (λ f. eventAt (eventBytes file) f .nexus) e,
+        kind-recorded file sound position (omega (arith, within, h)) ∙ sym (getD-take events (callsOf file) position powerUp within),
+      );
     })
   where
     calls : List Call

@@ -157,7 +157,15 @@ fn follow_flags(w: Watch, n: u8, i: usize, before: Device, after: Device) -> Wat
 }
 
 // One call, at position i: a call that leaves the record as it is isn't followed.
-fn follow_call(w: Watch, n: u8, i: usize, d: Device, asked: Asked, page: &[u8], outcome: Outcome) -> Watch
+fn follow_call(
+    w: Watch,
+    n: u8,
+    i: usize,
+    d: Device,
+    asked: Asked,
+    page: &[u8],
+    outcome: Outcome,
+) -> Watch
     ensures { λ r. ⌜ r ≡ watchedWith n i (state d) (callOf asked (now (page .entry))) (outcome .answer) (state (outcome .device)) w ⌝ }
 {
     let answer = outcome.answer;
@@ -210,7 +218,11 @@ fn cause_after(events: &[u8], pages: &[u8], n: u8, supported: bool) -> Cause
     let set = sight.set;
     Cause {
         answer,
-        touch: why_code::touch_for(number, followed.watch, device_16::selected(device, n as usize)),
+        touch: why_code::touch_for(
+            number,
+            followed.watch,
+            device_16::selected(device, n as usize),
+        ),
         mode: why_code::mode_for(number, set.fields.encryption),
     }
 }

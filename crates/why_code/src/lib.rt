@@ -83,7 +83,11 @@ pub fn touch_for(number: u8, watch: Watch, place: usize) -> Touch
 pub fn mode_for(number: u8, mode: u8) -> u8
     ensures { λ r. ⌜ r ≡ modeFor number mode ⌝ }
 {
-    if (number == 0) | (number == 12) { mode } else { 0 }
+    if (number == 0) | (number == 12) {
+        mode
+    } else {
+        0
+    }
 }
 
 // The event at a position, as it is recorded.

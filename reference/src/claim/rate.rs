@@ -1,5 +1,7 @@
 //! 02, request 11: "a rate from 0 to 1,000,000 pence".
 
+use crate::digits;
+
 /// The highest rate, in pence.
 pub const LARGEST_RATE: u64 = 1_000_000;
 
@@ -15,21 +17,7 @@ pub enum Rate {
 impl Rate {
     /// The rate that decimal digits tell, zeros before them included; nothing for a text that is no number.
     pub fn read(text: &str) -> Option<Rate> {
-        if text.is_empty() {
-            return None;
-        }
-        let mut rate = Rate::Pence(0);
-        for digit in text.chars() {
-            rate = rate.and_digit(digit.to_digit(10)?.into());
-        }
-        Some(rate)
-    }
-
-    /// The rate with one digit more. A number above the limit stays above it.
-    fn and_digit(self, digit: u64) -> Rate {
-        match self {
-            Rate::Pence(rate) if rate * 10 + digit <= LARGEST_RATE => Rate::Pence(rate * 10 + digit),
-            _ => Rate::AboveLimit,
-        }
+        let rate = digits::number(text, 10)?;
+        Some(if rate <= LARGEST_RATE { Rate::Pence(rate) } else { Rate::AboveLimit })
     }
 }

@@ -11,6 +11,7 @@ mod other_drive;
 pub mod page_builder;
 mod random;
 mod reached;
+pub mod reasons;
 pub mod record_builder;
 pub mod recordings;
 mod report;

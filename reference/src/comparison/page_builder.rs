@@ -64,6 +64,12 @@ impl SetPage {
         SetPage { scope, encryption, decryption, key, ..SetPage::k() }
     }
 
+    /// A set that every event it can meet releases.
+    pub fn releasable(scope: u8, lock: bool) -> Self {
+        let page = SetPage::of_modes(scope, encryption::ENCRYPT, decryption::DECRYPT);
+        SetPage { lock, ckorp: true, ckorl: true, ..page }
+    }
+
     /// The page of 02's request 2: "A certification lab sent CEEM 10b with decryption DISABLE". The rest is ours: ALL,
     /// encryption DISABLE too, so no key, and nothing else set (byte 5 80h).
     pub fn labs() -> Self {

@@ -4,10 +4,12 @@
 
 mod bytes;
 mod calls;
+mod sentences;
 mod set_page;
 mod unsound;
 mod words;
 
+pub use sentences::Sentences;
 pub use unsound::unsound;
 
 use crate::answer_words::short;
@@ -56,11 +58,17 @@ pub fn event_words(recording: &Recording, event: &Event) -> String {
 /// A replayed recording in words: for each event a line with its position from 0, the call, and the answer, four bytes
 /// an event. The positions stand below each other.
 pub fn told(recording: &Recording, answers: &[u8]) -> String {
+    told_with(recording, answers, &Sentences::default())
+}
+
+/// The same, with the sentences beside the writes that they are for.
+pub fn told_with(recording: &Recording, answers: &[u8], sentences: &Sentences) -> String {
     let events = recording.events.iter().zip(answers.chunks_exact(ANSWER_BYTES)).enumerate();
     let width = recording.events.len().saturating_sub(1).to_string().len();
     let line = |(position, (event, answer)): (usize, (&Event, &[u8]))| {
         let answer = short(answer[0], [answer[1], answer[2], answer[3]]);
-        format!("{position:>width$}  {} -> {answer}\n", event_words(recording, event))
+        let beside = sentences.beside(position);
+        format!("{position:>width$}  {} -> {answer}{beside}\n", event_words(recording, event))
     };
     events.map(line).collect()
 }

@@ -1,5 +1,7 @@
 //! A line of a script, word by word.
 
+use crate::digits;
+
 /// The words of a line, in small letters, read from the first to the last.
 pub struct Words {
     words: Vec<String>,
@@ -91,8 +93,7 @@ pub fn number(word: &str) -> Option<u64> {
         (.., Some(digits)) => (digits, 2),
         _ => (word, 10),
     };
-    let is_number = !digits.is_empty() && digits.chars().all(|digit| digit.is_digit(radix));
-    is_number.then(|| u64::from_str_radix(digits, radix).unwrap_or(u64::MAX))
+    digits::number(digits, radix)
 }
 
 /// Whether a number is in hex.

@@ -1,25 +1,12 @@
 //! The parts of a claimer that the faults put together wrongly.
 
+use crate::written::{printed, refused, refused_22};
 use reference::claim::second_account::{cell, claim};
 use reference::claim::{count, Cell, Claim, Rate};
 use reference::comparison::claims::Given;
 use reference::recording::{run, Moment, Recording};
 
-/// Lines on standard output.
-pub fn printed(text: String) -> Given {
-    Given { output: text.into_bytes(), errors: Vec::new() }
-}
-
-/// A line on standard error alone.
-pub fn refused(line: &str) -> Given {
-    Given { output: Vec::new(), errors: format!("{line}\n").into_bytes() }
-}
-
-/// The refusals of a file and of a rate, and of a rate that is no number.
-pub fn refused_22() -> Given {
-    refused("22 the recording is refused")
-}
-
+/// The refusals of a rate, and of one that is no number.
 pub fn refused_23() -> Given {
     refused("23 the rate is above 1,000,000 pence")
 }

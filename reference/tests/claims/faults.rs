@@ -1,9 +1,7 @@
 //! Claimers with a fault.
 
-use crate::claimer::{
-    adding, cells, checked, moving, placing, printed, refused, refused_22, refused_23, right, telling, usage,
-    with_rate,
-};
+use crate::claimer::{adding, cells, checked, moving, placing, refused_23, right, telling, usage, with_rate};
+use crate::written::{printed, refused, refused_22};
 use reference::claim::second_account::cell;
 use reference::claim::{count, row_of, Cell, Claim, Column, Counts, Rate};
 use reference::comparison::claims::Given;

@@ -9,6 +9,8 @@ mod comparing;
 #[path = "../support/failures.rs"]
 mod failures;
 mod faults;
+#[path = "../support/written.rs"]
+mod written;
 
 use comparing::{failure_with_fault, failures_without_fault, fault_asked_for, play, told, Programs};
 use faults::{Fault, FAULTS, LONG};

@@ -1,7 +1,8 @@
 //! 02, request 11: the claim of a recorded session, to the character, and what is refused.
 
-use crate::given::{k, k_but, without_key};
+use crate::given::k;
 use crate::recording::{event, file, out};
+use crate::sent::{not_supported, pages, sent, supported, Page};
 use reference::claim::second_account::{claim, Refusal};
 use reference::claim::{row_of, Column, Rate};
 use reference::recording::Event;
@@ -19,45 +20,6 @@ fn lines(rows: &[(usize, &str)], last: &str) -> String {
     let numbers = |row| rows.iter().find(|(told, _)| *told == row).map_or("0 0 0 0", |(_, numbers)| numbers);
     let rows: String = (0..=16).map(|row| format!("{row} {}\n", numbers(row))).collect();
     format!("{rows}{last}\n")
-}
-
-/// A write with the volume's support, and one without.
-fn supported(nexus: u8) -> Event {
-    event(3, nexus, 1)
-}
-
-fn not_supported(nexus: u8) -> Event {
-    event(3, nexus, 0)
-}
-
-/// The pages that are sent, in their order among the page bytes.
-enum Page {
-    /// LOCAL, ENCRYPT, locked.
-    K,
-    UnlockedK,
-    AllK,
-    External,
-    AllExternal,
-    Public,
-    LockedPublic,
-}
-
-fn pages() -> [Vec<u8>; 7] {
-    [
-        k(),
-        k_but(&[(4, 0x20)]),
-        k_but(&[(4, 0x40)]),
-        without_key([0x20, 0, 1, 0]),
-        without_key([0x40, 0, 1, 0]),
-        without_key([0x00, 0, 0, 0]),
-        without_key([0x01, 0, 0, 0]),
-    ]
-}
-
-/// A nexus sends a page.
-fn sent(nexus: u8, page: Page) -> Event {
-    let (pages, page) = (pages(), page as usize);
-    out(nexus, pages[..page].concat().len() as u16, pages[page].len() as u16)
 }
 
 /// The text of some events over those pages.

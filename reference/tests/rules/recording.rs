@@ -9,7 +9,7 @@ use reference::recording::{Recording, Replayed, Verdict};
 const REQUESTS: [u8; 16] = [0, 1, 0, 8, 0, 16, 0, 16, 5, 0, 0, 0, 0, 0, 0, 0];
 
 /// An event with a kind, a nexus and an argument.
-pub fn event(kind: u8, nexus: u8, argument: u16) -> Event {
+pub const fn event(kind: u8, nexus: u8, argument: u16) -> Event {
     Event { kind, nexus, argument, page_offset: 0, page_length: 0 }
 }
 

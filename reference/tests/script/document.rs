@@ -4,7 +4,8 @@ use crate::comments::said;
 use crate::examples::replies;
 use crate::{parts, recorded, shown};
 use reference::recording::answer_bytes;
-use reference::script::{event_words, told};
+use reference::script::{event_words, told_with, Sentences};
+use reference::why::History;
 
 const DOCUMENT: &str = concat!(env!("CARGO_MANIFEST_DIR"), "/../docs/RECORDINGS.md");
 
@@ -91,6 +92,8 @@ fn the_example_is_answered_as_its_comments_tell_and_is_told_in_words() {
     }
     assert_eq!(recording.events.len(), 7);
     let answers: Vec<u8> = replies.iter().flat_map(answer_bytes).collect();
-    let words = told(&recording, &answers);
-    assert!(words.contains(&indented("Replay in words")), "{words}");
+    let reasons = History::of(&recording).reasons_of_writes();
+    let sentences = Sentences::read(&reasons, &recording, &answers).expect("each refused write has a reason");
+    let words = told_with(&recording, &answers, &sentences);
+    assert!(words.contains(indented("Replay in words").trim_end()), "{words}");
 }

@@ -1,4 +1,4 @@
-//! Tests of recordings as text: docs/RECORDINGS.md, sentence by sentence.
+//! Tests of recordings as text and of reasons: docs/RECORDINGS.md and docs/REASONS.md, sentence by sentence.
 
 #![forbid(unsafe_code)]
 
@@ -13,6 +13,7 @@ mod layout;
 mod programs;
 mod random_recordings;
 mod random_texts;
+mod reasons;
 #[path = "../support/recorded.rs"]
 mod recorded;
 mod refusals;

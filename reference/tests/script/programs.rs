@@ -49,7 +49,7 @@ fn a_file_that_is_not_sound_is_refused_with_22() {
     let (status, output, error) = record(&folder, &["--show", "f"], b"");
     assert_eq!((status, output.as_str()), (1, ""));
     assert_eq!(error, "22 f: event 0, kind: 12, but the kinds are 0 to 11\n");
-    let (status, output, error) = outcome(&run(WORDS, &folder, &["f"], b""));
+    let (status, output, error) = outcome(&run(WORDS, &folder, &["f", "none"], b""));
     assert!(status == 1 && output.is_empty() && error.starts_with("22 "), "{error}");
 }
 
@@ -105,22 +105,75 @@ fn a_file_behind_a_link_is_replaced_and_keeps_its_permissions() {
 #[test]
 fn words_tells_each_call_with_its_answer() {
     let folder = folder("words");
-    let text = "power-on\nwrite nexus 3 supported\nout nexus 3 page 0010h public\n";
+    let text = "power-on\nwrite nexus 3 supported\nout nexus 3 page 0010h public\nwrite nexus 3 supported\n";
     assert_eq!(record(&folder, &["-", "f"], text.as_bytes()).0, 0);
-    let answers = [0, 0, 0, 0, 11, 7, 0x2A, 0x13, 2, 0, 0, 0];
-    let (status, output, error) = outcome(&run(WORDS, &folder, &["f"], &answers));
+    fs::write(folder.join("r"), "1 it is so\n").expect("the reasons can be written");
+    let answers = [0, 0, 0, 0, 11, 7, 0x2A, 0x13, 2, 0, 0, 0, 0, 0, 0, 0];
+    let (status, output, error) = outcome(&run(WORDS, &folder, &["f", "r"], &answers));
     let lines = "0  power-on -> 0 done\n\
-                 1  write nexus 3 supported -> 11 locked, and the key instance has changed (7/2A/13)\n\
-                 2  out nexus 3 page 0010h public -> 2 nexus above 15\n";
+                 1  write nexus 3 supported -> 11 locked, and the key instance has changed (7/2A/13): it is so\n\
+                 2  out nexus 3 page 0010h public -> 2 nexus above 15\n\
+                 3  write nexus 3 supported -> 0 done\n";
     assert_eq!((status, output.as_str(), error.as_str()), (0, lines, ""));
-    for count in [0, 4, 8, 11, 13, 16] {
-        let (status, output, error) = outcome(&run(WORDS, &folder, &["f"], &vec![0; count]));
+    for count in [0, 4, 8, 11, 15, 17, 20] {
+        let (status, output, error) = outcome(&run(WORDS, &folder, &["f", "r"], &vec![0; count]));
         assert!(status == 1 && output.is_empty(), "{count}");
-        assert_eq!(error, format!("{count} bytes of answers for 3 events, which have 4 each\n"));
+        assert_eq!(error, format!("{count} bytes of answers for 4 events, which have 4 each\n"));
     }
-    for arguments in [&[] as &[&str], &["f", "f"], &["-x"], &["-"], &["none"]] {
+    let wrong: [&[&str]; 9] = [
+        &[],
+        &["f"],
+        &["f", "r", "r"],
+        &["-x", "r"],
+        &["f", "-x"],
+        &["-", "r"],
+        &["f", "-"],
+        &["none", "r"],
+        &["f", "none"],
+    ];
+    for arguments in wrong {
         let (status, output, error) = outcome(&run(WORDS, &folder, arguments, b""));
         assert!(status == 2 && output.is_empty() && !error.is_empty(), "{arguments:?}");
     }
     assert_eq!(run(WORDS, &folder, &["--help"], b"").status.code(), Some(0));
+}
+
+#[test]
+fn words_takes_a_reason_for_each_refused_write_and_for_nothing_else() {
+    let folder = folder("reasons");
+    let text = "write nexus 3 supported\ndemount\nwrite nexus 3 supported\nwrite nexus 3 supported\n";
+    assert_eq!(record(&folder, &["-", "f"], text.as_bytes()).0, 0);
+    // the demount is refused too, as no drive would
+    let answers = [[2, 0, 0, 0], [2, 0, 0, 0], [0, 0, 0, 0], [3, 6, 0x2A, 0x11]].concat();
+    let told = |reasons: &str| {
+        fs::write(folder.join("r"), reasons).expect("the reasons can be written");
+        outcome(&run(WORDS, &folder, &["f", "r"], &answers))
+    };
+    let (status, output, error) = told("0 one\n3 two words: a b\n");
+    assert_eq!((status, error.as_str()), (0, ""));
+    let lines: Vec<&str> = output.lines().collect();
+    assert_eq!(lines[0], "0  write nexus 3 supported -> 2 nexus above 15: one");
+    assert!(lines[1].ends_with(" -> 2 nexus above 15") && lines[2].ends_with(" -> 0 done"));
+    assert!(lines[3].ends_with("another nexus (6/2A/11): two words: a b"), "{output}");
+    let wrong = [
+        ("", "no reason stands for event 0, a write"),
+        ("0 one\n", "no reason stands for event 3, a write"),
+        ("3 two\n", "no reason stands for event 0, a write"),
+        ("3 two\n0 one\n", "no reason stands for event 0, a write"),
+        ("0 one\n0 one\n3 two\n", "a reason stands for event 0, where none is due"),
+        ("0 one\n1 x\n3 two\n", "a reason stands for event 1, where none is due"),
+        ("0 one\n2 x\n3 two\n", "a reason stands for event 2, where none is due"),
+        ("0 one\n3 two\n3 two\n", "a reason stands for event 3, where none is due"),
+        ("0 one\n3 two\n4 x\n", "a reason stands for event 4, where none is due"),
+        ("0 one\n3 two\n\n", "the line `` of the reasons is not a position and a sentence"),
+        ("0 one\n3\n", "the line `3` of the reasons is not"),
+        ("0 one\n3 \n", "the line `3 ` of the reasons is not"),
+        ("00 one\n3 two\n", "the line `00 one` of the reasons is not"),
+        (" 0 one\n3 two\n", "the line ` 0 one` of the reasons is not"),
+        ("one\n3 two\n", "the line `one` of the reasons is not"),
+    ];
+    for (reasons, line) in wrong {
+        let (status, output, error) = told(reasons);
+        assert!(status == 1 && output.is_empty() && error.starts_with(line), "{reasons:?}: {error}");
+    }
 }

@@ -21,7 +21,7 @@ impl<Function: Fn(&[u8], &str) -> Given> Claimer for Function {
 /// The rate is appended to its arguments.
 impl Claimer for Program<'_> {
     fn claim(&self, file: &[u8], rate: &str) -> Outcome {
-        self.outcome(file, Some(rate))
+        self.outcome(file, &[rate])
     }
 }
 

@@ -16,6 +16,7 @@ pub use claimer::Claimer;
 
 use super::recordings::course::{run_through, Draw};
 use super::recordings::{shrink, told};
+use crate::stream::Command;
 use random::RandomClaims;
 use reached::Reached;
 
@@ -36,6 +37,11 @@ pub fn directed() -> Vec<Case> {
     let mut cases = Vec::new();
     directed::cases(&mut |case| cases.push(case));
     cases
+}
+
+/// Sessions of writes with their names, those that the claim's recordings are made of and that need not be long.
+pub(super) fn sessions() -> Vec<(String, Vec<Command>)> {
+    directed::sessions()
 }
 
 /// Random recordings with their rates, of a seed.

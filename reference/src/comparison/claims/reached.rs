@@ -7,12 +7,12 @@ use crate::claim::second_account::claim;
 use crate::claim::{Claim, Column, Rate, ROWS, ROW_ABOVE_15};
 use crate::codes::encryption;
 use crate::comparison::recordings::case::Group;
+use crate::comparison::recordings::counts::{Counts, Titled};
 use crate::comparison::recordings::course::Reaches;
-use crate::comparison::recordings::reached::{missing_in, Reached as Recordings};
+use crate::comparison::recordings::reached::Reached as Recordings;
 use crate::recording::{broken_rules, events_end, FileRule, EVENT_BYTES, LONGEST, MOST_EVENTS};
 use crate::sizes::PLACES;
 use crate::stream::kind;
-use std::collections::BTreeMap;
 
 /// The counts that are asked for: the last and the first of each number of digits.
 pub const COUNTS: [u64; 6] = [9, 10, 99, 100, 999, 1000];
@@ -83,16 +83,13 @@ pub enum Item {
     Broken(FileRule, RateKind),
 }
 
-/// Items of one group of counts.
-type Titled = (&'static str, Vec<Item>);
-
 /// Everything a run has to come to, by groups.
-fn wanted() -> Vec<Titled> {
+fn wanted() -> Vec<Titled<Item>> {
     [wanted_of_writes(), wanted_of_claims()].concat()
 }
 
 /// What writes have to come to.
-fn wanted_of_writes() -> Vec<Titled> {
+fn wanted_of_writes() -> Vec<Titled<Item>> {
     let cells = (0..ROW_ABOVE_15).flat_map(|row| Column::EVERY.map(|column| Item::Cell(row, column)));
     let done = PASSING.map(|column| Item::Answer(0, column));
     let refused = [2, 3, 4, 11, 12].map(|number| Item::Answer(number, Column::Refused));
@@ -115,7 +112,7 @@ fn wanted_of_writes() -> Vec<Titled> {
 }
 
 /// What claims have to come to.
-fn wanted_of_claims() -> Vec<Titled> {
+fn wanted_of_claims() -> Vec<Titled<Item>> {
     let counts = |item: fn(Column, u64) -> Item| {
         Column::EVERY.into_iter().flat_map(|column| COUNTS.map(|count| item(column, count))).collect()
     };
@@ -158,7 +155,7 @@ const TOUCHING: [u8; 7] = [
 #[derive(Default)]
 pub struct Reached {
     recordings: Recordings,
-    counts: BTreeMap<Item, u64>,
+    counts: Counts<Item>,
     refused_with_23: u64,
     without_number: u64,
 }
@@ -174,7 +171,7 @@ impl Reaches for Reached {
         match claim(&case.recording.file, Rate::Pence(pence)) {
             Ok(claim) => {
                 self.count_claim(&claim, watch.events());
-                self.add_all(watch.items());
+                self.counts.add_all(watch.items());
                 self.count_rate(case, rate, &claim);
             }
             Err(_) => self.count_wrong(case),
@@ -189,17 +186,11 @@ impl Reaches for Reached {
         let mut text = self.recordings.text_of(&groups());
         text += &format!("sound recordings refused with 23: {}, ", self.refused_with_23);
         text += &format!("at a rate that is no number: {}\n", self.without_number);
-        for (title, items) in wanted() {
-            let counts = items.iter().filter_map(|item| self.counts.get(item));
-            let (reached, least) = (counts.clone().count(), counts.min().copied().unwrap_or(0));
-            text += &format!("{title}: {reached} of {}, each at least {least} times\n", items.len());
-        }
-        text
+        text + &self.counts.text(&wanted())
     }
 
     fn missing_text(&self, random: bool) -> String {
-        let missing = wanted().into_iter().map(|(title, items)| missing_in(title, &items, &self.counts));
-        self.recordings.missing_text_of(&groups(), random) + &missing.collect::<String>()
+        self.recordings.missing_text_of(&groups(), random) + &self.counts.missing_text(&wanted())
     }
 }
 
@@ -209,35 +200,25 @@ fn groups() -> Vec<(Group, usize)> {
 }
 
 impl Reached {
-    /// Counts one thing.
-    fn add(&mut self, item: Item) {
-        *self.counts.entry(item).or_default() += 1;
-    }
-
-    /// Counts things.
-    fn add_all(&mut self, items: impl IntoIterator<Item = Item>) {
-        items.into_iter().for_each(|item| self.add(item));
-    }
-
     /// Counts what the rows and totals of a sound recording of so many events hold.
     fn count_claim(&mut self, claim: &Claim, events: usize) {
         let totals = claim.totals;
         for column in Column::EVERY {
             let in_rows = claim.rows.map(|row| row[column]);
             let in_row = COUNTS.into_iter().filter(|count| in_rows.contains(count));
-            self.add_all(in_row.map(|count| Item::InRow(column, count)));
+            self.counts.add_all(in_row.map(|count| Item::InRow(column, count)));
             let several = in_rows.iter().filter(|&&count| count > 0).count() > 1;
             if several && COUNTS.contains(&totals[column]) {
-                self.add(Item::InTotal(column, totals[column]));
+                self.counts.add(Item::InTotal(column, totals[column]));
             }
             if totals[column] == most_writes(column) {
-                self.add(Item::MostWrites(column));
+                self.counts.add(Item::MostWrites(column));
             }
         }
         let full = |row: &usize| Column::EVERY.into_iter().all(|column| claim.rows[*row][column] > 0);
-        self.add_all((0..ROWS).filter(full).map(Item::RowOfEveryColumn));
+        self.counts.add_all((0..ROWS).filter(full).map(Item::RowOfEveryColumn));
         if totals.writes() == 0 {
-            self.add(if events == 0 { Item::NoEvents } else { Item::NoWrites });
+            self.counts.add(if events == 0 { Item::NoEvents } else { Item::NoWrites });
         }
     }
 
@@ -245,21 +226,22 @@ impl Reached {
     fn count_rate(&mut self, case: &Case, rate: Option<Rate>, claim: &Claim) {
         let encrypted = claim.totals[Column::Encrypted] > 0;
         if encrypted {
-            self.add_all(asked_rate(&case.rate).map(Item::Rate));
+            self.counts.add_all(asked_rate(&case.rate).map(Item::Rate));
             let is_long = case.rate.len() >= LONG_RATE;
-            self.add_all(is_long.then_some(Item::LongRate(RateKind::of(&case.rate))));
+            self.counts.add_all(is_long.then_some(Item::LongRate(RateKind::of(&case.rate))));
         }
         match rate {
             None => self.without_number += 1,
             Some(Rate::AboveLimit) => self.refused_with_23 += 1,
             Some(Rate::Pence(pence)) => {
                 let amount = claim.amount;
-                self.add_all((claim.text().len() == LONGEST_TEXT).then_some(Item::LongestText));
-                self.add_all(BITS.into_iter().filter(|bits| amount >> bits > 0).map(Item::AmountAbove));
+                self.counts.add_all((claim.text().len() == LONGEST_TEXT).then_some(Item::LongestText));
+                self.counts
+                    .add_all(BITS.into_iter().filter(|bits| amount >> bits > 0).map(Item::AmountAbove));
                 match (encrypted, pence > 0) {
-                    (true, true) => self.add(Item::AmountOfDigits(amount.to_string().len())),
-                    (true, false) => self.add(Item::NoAmountByRate),
-                    (false, true) => self.add(Item::NoAmountByWrites),
+                    (true, true) => self.counts.add(Item::AmountOfDigits(amount.to_string().len())),
+                    (true, false) => self.counts.add(Item::NoAmountByRate),
+                    (false, true) => self.counts.add(Item::NoAmountByWrites),
                     (false, false) => {}
                 }
             }
@@ -268,9 +250,9 @@ impl Reached {
 
     /// Counts the rule that a wrong file breaks alone, and the rate that goes with it.
     fn count_wrong(&mut self, case: &Case) {
-        self.add_all(asked_rate(&case.rate).map(Item::RateOfWrongFile));
+        self.counts.add_all(asked_rate(&case.rate).map(Item::RateOfWrongFile));
         if let [rule] = broken_rules(&case.recording.file)[..] {
-            self.add(Item::Broken(rule, RateKind::of(&case.rate)));
+            self.counts.add(Item::Broken(rule, RateKind::of(&case.rate)));
         }
     }
 }

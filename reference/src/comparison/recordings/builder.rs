@@ -3,7 +3,8 @@
 use crate::codes::{page_code, PROTOCOL};
 use crate::comparison::page_builder::SetPage;
 use crate::comparison::session::{event, event_of, read, security_in, security_out, vendor_release, write};
-use crate::recording::{events_end, fields_of, Event, Header, Recording, HEADER_BYTES, LONGEST};
+use crate::recording::{events_end, fields_of, Event, FileRule, Header, Recording};
+use crate::recording::{HEADER_BYTES, LONGEST, MOST_EVENTS};
 use crate::stream::{kind, Command};
 use std::collections::{HashMap, HashSet};
 
@@ -150,4 +151,30 @@ pub fn overlapping_pages() -> (Vec<Event>, Vec<u8>) {
         out(4, 0, 23),
     ];
     (events, nested)
+}
+
+/// A recording's file with this rule broken and no other; a rule of events by one at its end.
+pub fn breaking(rule: FileRule, sound: &Recording) -> Vec<u8> {
+    let demount = Event { kind: kind::DEMOUNT, ..Event::default() };
+    let write = Event { kind: kind::WRITE, nexus: 3, argument: 1, ..Event::default() };
+    let event = match rule {
+        FileRule::Under8Bytes => return sound.bytes()[..7].to_vec(),
+        FileRule::Total => return with_header(sound, |header| header.total -= 1),
+        FileRule::FirstEvent => return with_header(sound, |header| header.first_event += 8),
+        FileRule::PageBytesStart => return with_header(sound, |header| header.page_bytes += 8),
+        FileRule::EventsPastEnd => {
+            return with_header(sound, |header| {
+                header.event_count = MOST_EVENTS as u16;
+                header.page_bytes = events_end(MOST_EVENTS) as u16;
+            })
+        }
+        FileRule::Kind => Event { kind: 12, ..write },
+        FileRule::SupportFlag => Event { argument: 2, ..write },
+        FileRule::UnusedNexus => Event { nexus: 3, ..demount },
+        FileRule::UnusedArgument => Event { argument: 1, ..demount },
+        FileRule::UnusedPageOffset => Event { page_offset: 1, ..write },
+        FileRule::UnusedPageLength => Event { page_length: 1, ..write },
+        FileRule::PagePastEnd => Event { kind: kind::OUT, argument: 0x0010, page_length: u16::MAX, ..write },
+    };
+    file_of([&sound.events[..], &[event]].concat(), sound.page_bytes.clone())
 }

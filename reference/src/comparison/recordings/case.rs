@@ -38,6 +38,14 @@ pub enum Group {
     ClaimRates,
     ClaimAmounts,
     ClaimWrongFiles,
+    ReasonAnswers,
+    ReasonTouches,
+    ReasonLocks,
+    ReasonFlags,
+    ReasonPowerOns,
+    ReasonSessions,
+    ReasonLimits,
+    ReasonWrongFiles,
     RandomSound,
     RandomHeader,
     RandomEvent,
@@ -98,6 +106,23 @@ impl Group {
         (Group::ClaimWrongFiles, 12),
     ];
 
+    /// The groups of the reasons' comparison.
+    pub const OF_REASONS: [(Group, usize); 8] = [
+        (Group::ReasonAnswers, 15),
+        (Group::ReasonTouches, 154),
+        (Group::ReasonLocks, 39),
+        (Group::ReasonFlags, 31),
+        (Group::ReasonPowerOns, 10),
+        (Group::ReasonSessions, 167),
+        (Group::ReasonLimits, 5),
+        (Group::ReasonWrongFiles, 12),
+    ];
+
+    /// The groups of random recordings, with the ways of each to damage them.
+    pub fn of_random() -> impl Iterator<Item = (Group, usize)> {
+        Group::EVERY.into_iter().filter(|(group, _)| group.is_random())
+    }
+
     /// Whether it is of the random part.
     pub fn is_random(self) -> bool {
         self >= Group::RandomSound
@@ -130,14 +155,14 @@ impl fmt::Display for Group {
             Group::Largest => "the largest recordings",
             Group::Examples => "P1 to P10",
             Group::Sessions => "sessions",
-            group => group.claim_or_random(),
+            group => group.beside_replay(),
         })
     }
 }
 
 impl Group {
-    /// The name of one of the claim's groups or of the random ones.
-    fn claim_or_random(self) -> &'static str {
+    /// The name of one of the claim's groups, of the reasons' or of the random ones.
+    fn beside_replay(self) -> &'static str {
         match self {
             Group::ClaimRows => "writes by row and column",
             Group::ClaimAbove15 => "writes of nexuses above 15",
@@ -149,6 +174,14 @@ impl Group {
             Group::ClaimRates => "rates",
             Group::ClaimAmounts => "amounts",
             Group::ClaimWrongFiles => "sessions of writes in wrong files",
+            Group::ReasonAnswers => "reasons by answer",
+            Group::ReasonTouches => "sets in use that are touched",
+            Group::ReasonLocks => "which page is the lock",
+            Group::ReasonFlags => "which call raised a flag",
+            Group::ReasonPowerOns => "reasons around power-on",
+            Group::ReasonSessions => "the claim's sessions",
+            Group::ReasonLimits => "numbers of events and nexuses",
+            Group::ReasonWrongFiles => "reasons of wrong files",
             Group::RandomSound => "random, sound",
             Group::RandomHeader => "random, a header number changed",
             Group::RandomEvent => "random, a field of an event changed",

@@ -3,6 +3,7 @@
 
 pub(super) mod builder;
 pub(super) mod case;
+pub(super) mod counts;
 pub(super) mod course;
 mod directed;
 pub(super) mod outcome;

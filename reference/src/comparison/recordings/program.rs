@@ -17,24 +17,24 @@ pub struct Program<'parts>(pub &'parts [String]);
 /// For the record `--record` is appended.
 impl Replayer for Program<'_> {
     fn replay(&self, file: &[u8], way: Way) -> Outcome {
-        self.outcome(file, (way == Way::Record).then_some("--record"))
+        self.outcome(file, if way == Way::Record { &["--record"] } else { &[] })
     }
 }
 
 impl Program<'_> {
-    /// What comes of the program for a file, with one argument more or none.
-    pub fn outcome(&self, file: &[u8], argument: Option<&str>) -> Outcome {
-        match self.start(argument).map(|child| converse(child, file)) {
+    /// What comes of the program for a file, with some arguments more.
+    pub fn outcome(&self, file: &[u8], arguments: &[&str]) -> Outcome {
+        match self.start(arguments).map(|child| converse(child, file)) {
             Ok(outcome) => outcome,
             Err(error) => Outcome::Nothing(format!("it can't be started: {error}")),
         }
     }
 
     /// Starts the program.
-    fn start(&self, argument: Option<&str>) -> io::Result<Child> {
+    fn start(&self, arguments: &[&str]) -> io::Result<Child> {
         Command::new(&self.0[0])
             .args(&self.0[1..])
-            .args(argument)
+            .args(arguments)
             .stdin(Stdio::piped())
             .stdout(Stdio::piped())
             .stderr(Stdio::piped())

@@ -2,13 +2,14 @@
 
 use super::builder::requests;
 use super::case::{Case, Group};
+use super::counts::{counts_text, missing_in, Groups};
 use super::course::Reaches;
 use crate::account::Rule;
 use crate::comparison::reached::{Item, Reached as Calls};
 use crate::record::Record;
 use crate::recording::{broken_rules, run, Event, FileRule, Moment, Recording, LONGEST, MOST_EVENTS};
 use crate::stream::kind;
-use std::collections::{BTreeMap, BTreeSet};
+use std::collections::BTreeMap;
 
 /// So many draws that numbers fill more than a byte, as a recording has room for.
 const MANY_DRAWS: u32 = 4096;
@@ -112,7 +113,7 @@ fn covered(pages: &[(usize, usize)]) -> usize {
 pub struct Reached {
     recordings: u64,
     refused: u64,
-    groups: BTreeMap<Group, (u64, BTreeSet<String>)>,
+    groups: Groups,
     broken: BTreeMap<FileRule, u64>,
     broken_alone: BTreeMap<FileRule, u64>,
     shapes: BTreeMap<Shape, u64>,
@@ -143,9 +144,7 @@ impl Reached {
     /// Counts a recording and, where it is sound, the calls of its replay, each of which is shown.
     pub fn count_showing(&mut self, case: &Case, show: &mut dyn FnMut(&Moment)) {
         self.recordings += 1;
-        let (count, names) = self.groups.entry(case.group).or_default();
-        *count += 1;
-        names.insert(case.name.clone());
+        self.groups.add(case);
         match Recording::read(&case.file) {
             Some(recording) => self.count_sound(&recording, show),
             None => self.count_wrong(&broken_rules(&case.file)),
@@ -178,56 +177,21 @@ impl Reached {
     pub fn text_of(&self, groups: &[(Group, usize)]) -> String {
         let mut text = format!("recordings: {} taken, ", self.recordings - self.refused);
         text += &format!("{} refused; {} calls replayed\n", self.refused, self.calls.calls);
-        for &(group, _) in groups {
-            let (count, names) = self.of_group(group);
-            text += &format!("{group}: {count}, of {names} names\n");
-        }
+        text += &self.groups.text(groups);
         text += &counts_text("rules of the file broken", &FileRule::EVERY, &self.broken);
         text += &counts_text("rules of the file broken alone", &FileRule::EVERY, &self.broken_alone);
         text += &counts_text("shapes of sound recordings", &Shape::EVERY, &self.shapes);
         text + &self.calls.text_of(calls_wanted())
     }
 
-    /// The recordings of a group, and how many of them have different names.
-    fn of_group(&self, group: Group) -> (u64, usize) {
-        self.groups.get(&group).map_or((0, 0), |(count, names)| (*count, names.len()))
-    }
-
     /// What was never reached, in words, of some groups among other things.
     pub fn missing_text_of(&self, groups: &[(Group, usize)], random: bool) -> String {
-        let mut text = String::new();
-        for &(group, wanted) in groups.iter().filter(|(group, _)| random || !group.is_random()) {
-            let (_, names) = self.of_group(group);
-            if names < wanted {
-                text += &format!("    never reached: {group}: {names} of {wanted} names\n");
-            }
-        }
+        let mut text = self.groups.missing_text(groups, random);
         text += &missing_in("rules of the file broken", &FileRule::EVERY, &self.broken);
         text += &missing_in("rules of the file broken alone", &FileRule::EVERY, &self.broken_alone);
         text += &missing_in("shapes of sound recordings", &Shape::EVERY, &self.shapes);
         text + &self.calls.missing_text_of(calls_wanted().into_iter())
     }
-}
-
-/// Some counts in a line.
-fn counts_text<Counted: Ord + std::fmt::Debug>(
-    title: &str,
-    every: &[Counted],
-    counts: &BTreeMap<Counted, u64>,
-) -> String {
-    let count = |counted| format!("{counted:?}: {}", counts.get(counted).copied().unwrap_or(0));
-    let parts: Vec<String> = every.iter().map(count).collect();
-    format!("{title}: {}\n", parts.join(", "))
-}
-
-/// What has no count.
-pub fn missing_in<Counted: Ord + std::fmt::Debug>(
-    title: &str,
-    every: &[Counted],
-    counts: &BTreeMap<Counted, u64>,
-) -> String {
-    let missing = every.iter().filter(|counted| !counts.contains_key(counted));
-    missing.map(|counted| format!("    never reached: {title}: {counted:?}\n")).collect()
 }
 
 /// What the calls of all replays have to come to: of what the drive's comparison asks for, all that can come after

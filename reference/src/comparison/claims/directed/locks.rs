@@ -1,7 +1,7 @@
 //! A locked nexus whose set each kind of call touches or leaves: writes before the call, and after it those that find
 //! the flags, if any, and the lock.
 
-use crate::codes::{decryption, encryption, scope};
+use crate::codes::{decryption, scope};
 use crate::comparison::claims::case::{put, Sink};
 use crate::comparison::page_builder::SetPage;
 use crate::comparison::recordings::case::Group;
@@ -15,6 +15,14 @@ const LOCKED: u8 = 3;
 const OTHER: u8 = 6;
 
 pub fn cases(sink: &mut Sink) {
+    for (name, commands) in sessions() {
+        put(sink, Group::ClaimLocks, name, &commands, "250");
+    }
+}
+
+/// The sessions with their names.
+pub fn sessions() -> Vec<(String, Vec<Command>)> {
+    let mut sessions = Vec::new();
     for (scope_name, start) in starts() {
         for (call_name, call) in calls() {
             let mut commands = vec![security_in(OTHER, 0x0020, 0)];
@@ -23,24 +31,19 @@ pub fn cases(sink: &mut Sink) {
             commands.push(call);
             commands.extend(vec![write(LOCKED, true); 3]);
             commands.extend([write(LOCKED, false), write(OTHER, true), write(OTHER, false)]);
-            put(sink, Group::ClaimLocks, format!("{scope_name}, {call_name}"), &commands, "250");
+            sessions.push((format!("{scope_name}, {call_name}"), commands));
         }
     }
-}
-
-/// A set that every event it can meet releases.
-fn page(scope: u8, lock: bool) -> SetPage {
-    let page = SetPage::of_modes(scope, encryption::ENCRYPT, decryption::DECRYPT);
-    SetPage { lock, ckorp: true, ckorl: true, ..page }
+    sessions
 }
 
 /// How the lock comes about: with a set of its own, with one for all, over another nexus's set, over an empty place 0.
 fn starts() -> [(&'static str, Vec<Command>); 4] {
     let public = || security_out(LOCKED, SetPage::public(true).bytes());
     [
-        ("LOCAL", vec![security_out(LOCKED, page(scope::LOCAL, true).bytes())]),
-        ("ALL", vec![security_out(LOCKED, page(scope::ALL, true).bytes())]),
-        ("PUBLIC", vec![security_out(OTHER, page(scope::ALL, false).bytes()), public()]),
+        ("LOCAL", vec![security_out(LOCKED, SetPage::releasable(scope::LOCAL, true).bytes())]),
+        ("ALL", vec![security_out(LOCKED, SetPage::releasable(scope::ALL, true).bytes())]),
+        ("PUBLIC", vec![security_out(OTHER, SetPage::releasable(scope::ALL, false).bytes()), public()]),
         ("PUBLIC over nothing", vec![public()]),
     ]
 }
@@ -52,8 +55,14 @@ fn calls() -> Vec<(String, Command)> {
         let mut add = |name: &str, command| calls.push((format!("{name} of nexus {nexus}"), command));
         add("IN", security_in(nexus, 0x0020, 0));
         for scope in [scope::LOCAL, scope::ALL] {
-            add(&format!("OUT, scope {scope}, locked,"), security_out(nexus, page(scope, true).bytes()));
-            add(&format!("OUT, scope {scope},"), security_out(nexus, page(scope, false).bytes()));
+            add(
+                &format!("OUT, scope {scope}, locked,"),
+                security_out(nexus, SetPage::releasable(scope, true).bytes()),
+            );
+            add(
+                &format!("OUT, scope {scope},"),
+                security_out(nexus, SetPage::releasable(scope, false).bytes()),
+            );
         }
         add("OUT, PUBLIC, locked,", security_out(nexus, SetPage::public(true).bytes()));
         add("OUT, PUBLIC,", security_out(nexus, SetPage::public(false).bytes()));

@@ -33,6 +33,13 @@ pub fn cases(sink: &mut Sink) {
     of_replays(sink);
 }
 
+/// The sessions by what decides their writes, with their names.
+pub fn sessions() -> Vec<(String, Vec<Command>)> {
+    let named = outcomes::sessions().into_iter().chain(power_ons::sessions());
+    let named = named.map(|(name, commands)| (name.to_string(), commands));
+    named.chain(locks::sessions()).collect()
+}
+
 /// The recordings of the replay's comparison: wrong files at rates of each kind in turn, sound ones mostly at rates that
 /// are taken.
 fn of_replays(sink: &mut Sink) {

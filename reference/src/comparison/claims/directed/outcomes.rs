@@ -13,7 +13,7 @@ use crate::stream::{kind, Command};
 pub fn cases(sink: &mut Sink) {
     modes_and_support(sink);
     modes_and_places(sink);
-    for (name, commands) in pending_flags().into_iter().chain(sets_in_use()) {
+    for (name, commands) in sessions() {
         put(sink, Group::ClaimOutcomes, name, &commands, "250");
     }
     without_writes(sink);
@@ -55,7 +55,12 @@ fn modes_and_places(sink: &mut Sink) {
 }
 
 /// A session with its name.
-type Named = (&'static str, Vec<Command>);
+pub type Named = (&'static str, Vec<Command>);
+
+/// The sessions with their names.
+pub fn sessions() -> Vec<Named> {
+    [pending_flags(), sets_in_use()].concat()
+}
 
 /// Writes that aren't carried out, once for each flag; other calls that take a flag away.
 fn pending_flags() -> Vec<Named> {

@@ -9,6 +9,13 @@ use crate::comparison::session::{event, power_on, security_in, security_out, wri
 use crate::stream::{kind, Command};
 
 pub fn cases(sink: &mut Sink) {
+    for (name, commands) in sessions() {
+        put(sink, Group::ClaimPowerOns, name, &commands, "250");
+    }
+}
+
+/// The sessions with their names.
+pub fn sessions() -> Vec<(&'static str, Vec<Command>)> {
     let on = || vec![power_on()];
     let first = || in_columns(3, [1, 2, 3, 4]);
     let second = || in_columns(3, [5, 7, 6, 8]);
@@ -24,9 +31,7 @@ pub fn cases(sink: &mut Sink) {
         ("many power-ons", vec![[on(), in_columns(9, [1, 1, 1, 1])].concat(); 20].concat()),
         ("nothing but power-on", vec![power_on(); 3]),
     ];
-    for (name, commands) in sessions.into_iter().chain(taken_away()) {
-        put(sink, Group::ClaimPowerOns, name, &commands, "250");
-    }
+    sessions.into_iter().chain(taken_away()).collect()
 }
 
 /// Power-on takes sets, locks and flags away, so that the same write comes to another column.
