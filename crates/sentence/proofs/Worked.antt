@@ -10,31 +10,31 @@ use Rattle.answer.specs.declared.Answer.the-variants.{Done, NotWellFormed, Nexu
 use Rattle.recording.specs.Forms.{formOf}
 use Rattle.why.specs.declared.Deed.the-variants.{Untouched, Established, Replaced, Evicted, Released}
 use Rattle.sentence.specs.Telling.{kindWords, hasNexus, nexusWords, eventWords, deedWords, touchWords, blockWords, allowedWords, unsupportedWords, sentenceBy, stopperWords, firstLine, secondLine, reasonText}
-use Rattle.sentence.specs.Claims.{Told, stops, uses, claimed}
+use Rattle.sentence.specs.Claims.{Worded, stops, stands, wordedSo}
 
 -- docs/REASONS.md, "The lines": its table
-unfoldable pub table : List Told
+unfoldable pub table : List Worded
 table =
-    uses Done 1 2 "0\nnothing stops this write: its block goes down encrypted under the set in place 1\n"
-    ∷ uses NotWellFormed 0 0 "1\nthe device record is not well formed\n"
-    ∷ uses NexusAbove 0 0 "2\nthe drive has no nexus of that number\n"
+    stands Done 1 2 "0\nnothing stops this write: its block goes down encrypted under the set in place 1\n"
+    ∷ stands NotWellFormed 0 0 "1\nthe device record is not well formed\n"
+    ∷ stands NexusAbove 0 0 "2\nthe drive has no nexus of that number\n"
     ∷ stops ChangedByAnotherNexus 4 2 6 Replaced 0 "3\na unit attention is pending: event 4 (SECURITY PROTOCOL OUT, nexus 6) replaced the set in place 0, which this nexus used\n"
     ∷ stops ChangedByVendorEvent 5 5 0 Released 1 "4\na unit attention is pending: event 5 (demount) released the set in place 1, which this nexus used\n"
     ∷ stops KeyInstanceChanged 7 5 0 Released 1 "11 5 7\nthe nexus is locked: event 7 (demount) released the set in place 1, which this nexus used\n"
-    ∷ uses ParametersNotUsable 1 2 "12\nthe set in place 1 has encryption mode 2 (ENCRYPT), and the volume doesn't support it\n"
+    ∷ stands ParametersNotUsable 1 2 "12\nthe set in place 1 has encryption mode 2 (ENCRYPT), and the volume doesn't support it\n"
     ∷ []
 
 -- "A block goes down clear under encryption mode 0, external under 1, encrypted under any other."
-unfoldable pub modes : List Told
+unfoldable pub modes : List Worded
 modes =
-    uses Done 0 0 "0\nnothing stops this write: its block goes down clear under the set in place 0\n"
-    ∷ uses Done 0 1 "0\nnothing stops this write: its block goes down external under the set in place 0\n"
-    ∷ uses Done 4 2 "0\nnothing stops this write: its block goes down encrypted under the set in place 4\n"
-    ∷ uses Done 4 3 "0\nnothing stops this write: its block goes down encrypted under the set in place 4\n"
+    stands Done 0 0 "0\nnothing stops this write: its block goes down clear under the set in place 0\n"
+    ∷ stands Done 0 1 "0\nnothing stops this write: its block goes down external under the set in place 0\n"
+    ∷ stands Done 4 2 "0\nnothing stops this write: its block goes down encrypted under the set in place 4\n"
+    ∷ stands Done 4 3 "0\nnothing stops this write: its block goes down encrypted under the set in place 4\n"
     ∷ []
 
 -- every kind, those with a nexus at its ends and above 15; what an event did; large positions
-unfoldable pub events : List Told
+unfoldable pub events : List Worded
 events =
     stops KeyInstanceChanged 0 0 9 Released 1 "11 0 0\nthe nexus is locked: event 0 (power-on) released the set in place 1, which this nexus used\n"
     ∷ stops KeyInstanceChanged 9 1 0 Replaced 0 "11 1 9\nthe nexus is locked: event 9 (SECURITY PROTOCOL IN, nexus 0) replaced the set in place 0, which this nexus used\n"
@@ -52,28 +52,28 @@ events =
     ∷ []
 
 -- what no reason of a recorded session has is told too: the function is total
-unfoldable pub others : List Told
+unfoldable pub others : List Worded
 others =
-    uses ProtocolNotSupported 1 2 "5\nthe answer is not a write's\n"
-    ∷ uses KeyIncorrect 1 2 "17\nthe answer is not a write's\n"
-    ∷ uses KeyInstanceChanged 1 2 "11 0 0\nthe nexus is locked: event 0 (power-on) left the set in place 1, which this nexus used\n"
+    stands ProtocolNotSupported 1 2 "5\nthe answer is not a write's\n"
+    ∷ stands KeyIncorrect 1 2 "17\nthe answer is not a write's\n"
+    ∷ stands KeyInstanceChanged 1 2 "11 0 0\nthe nexus is locked: event 0 (power-on) left the set in place 1, which this nexus used\n"
     ∷ stops KeyInstanceChanged 18446744073709551615 12 7 Untouched 18446744073709551615 "11 12 18446744073709551615\nthe nexus is locked: event 18446744073709551615 (unknown) left the set in place 18446744073709551615, which this nexus used\n"
     ∷ []
 
-pub table-told : T (claimed table)
-unfolding claimed table bytesOf digitsWithin decimal kindWords nexusWords eventWords deedWords touchWords blockWords allowedWords unsupportedWords sentenceBy stopperWords firstLine secondLine reasonText
+pub table-told : T (wordedSo table)
+unfolding wordedSo table bytesOf digitsWithin decimal kindWords nexusWords eventWords deedWords touchWords blockWords allowedWords unsupportedWords sentenceBy stopperWords firstLine secondLine reasonText
 table-told = tt
 
-pub modes-told : T (claimed modes)
-unfolding claimed modes bytesOf digitsWithin decimal kindWords nexusWords eventWords deedWords touchWords blockWords allowedWords unsupportedWords sentenceBy stopperWords firstLine secondLine reasonText
+pub modes-told : T (wordedSo modes)
+unfolding wordedSo modes bytesOf digitsWithin decimal kindWords nexusWords eventWords deedWords touchWords blockWords allowedWords unsupportedWords sentenceBy stopperWords firstLine secondLine reasonText
 modes-told = tt
 
-pub events-told : T (claimed events)
-unfolding claimed events bytesOf digitsWithin decimal kindWords nexusWords eventWords deedWords touchWords blockWords allowedWords unsupportedWords sentenceBy stopperWords firstLine secondLine reasonText
+pub events-told : T (wordedSo events)
+unfolding wordedSo events bytesOf digitsWithin decimal kindWords nexusWords eventWords deedWords touchWords blockWords allowedWords unsupportedWords sentenceBy stopperWords firstLine secondLine reasonText
 events-told = tt
 
-pub others-told : T (claimed others)
-unfolding claimed others bytesOf digitsWithin decimal kindWords nexusWords eventWords deedWords touchWords blockWords allowedWords unsupportedWords sentenceBy stopperWords firstLine secondLine reasonText
+pub others-told : T (wordedSo others)
+unfolding wordedSo others bytesOf digitsWithin decimal kindWords nexusWords eventWords deedWords touchWords blockWords allowedWords unsupportedWords sentenceBy stopperWords firstLine secondLine reasonText
 others-told = tt
 
 -- the kinds that are told with a nexus are those that may be recorded with one

@@ -12,8 +12,8 @@ abbrev pub linesMost : ℕ
 linesMost = 256
 
 -- lines by themselves: their text, and zeros after it
-unfoldable pub linesOf : List ℕ → Lines
-linesOf text = record { bytes = padded linesMost text; length = length text }
+unfoldable pub toldLines : List ℕ → Lines
+toldLines text = record { bytes = padded linesMost text; length = length text }
 
 -- a name, and spaces after it
 abbrev pub nameMost : ℕ

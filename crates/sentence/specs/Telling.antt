@@ -17,8 +17,8 @@ use Rattle.why.specs.declared.Deed.the-variants.{Untouched, Established, Replac
 use Rattle.why.specs.declared.Reason.{Reason}
 
 -- a number after words
-abbrev pub told : String → ℕ → List ℕ
-told words n = bytesOf words ++ decimal n
+abbrev pub wordsAnd : String → ℕ → List ℕ
+wordsAnd words n = bytesOf words ++ decimal n
 
 -- ---- an event
 
@@ -56,11 +56,11 @@ abbrev pub hasNexus : (kind : ℕ) → Bool
 hasNexus kind = eqb kind 1 || eqb kind 2 || eqb kind 3 || eqb kind 6 || eqb kind 8 || eqb kind 11
 
 unfoldable pub nexusWords : (kind nexus : ℕ) → List ℕ
-nexusWords kind nexus = if hasNexus kind then told ", nexus " nexus else []
+nexusWords kind nexus = if hasNexus kind then wordsAnd ", nexus " nexus else []
 
 -- "An event is told by its position .. and its kind", "followed by a comma and" its nexus
 unfoldable pub eventWords : (position kind nexus : ℕ) → List ℕ
-eventWords position kind nexus = told "event " position ++ bytesOf " (" ++ kindWords kind ++ nexusWords kind nexus ++ bytesOf ")"
+eventWords position kind nexus = wordsAnd "event " position ++ bytesOf " (" ++ kindWords kind ++ nexusWords kind nexus ++ bytesOf ")"
 
 -- ---- what it did
 
@@ -79,7 +79,7 @@ deedWords deed = bytesOf (deedName deed)
 unfoldable pub touchWords : Reason → List ℕ
 touchWords reason =
     let touch = reason .cause .touch in
-    eventWords (positionOf (touch .at)) (reason .kind) (reason .nexus) ++ bytesOf " " ++ deedWords (touch .deed) ++ told " in place " (touch .place)
+    eventWords (positionOf (touch .at)) (reason .kind) (reason .nexus) ++ bytesOf " " ++ deedWords (touch .deed) ++ wordsAnd " in place " (touch .place)
     ++ bytesOf ", which this nexus used"
 
 -- ---- the sentence
@@ -90,11 +90,11 @@ blockWords mode = if eqb mode 0 then bytesOf "clear" else if eqb mode 1 then byt
 
 -- answer 0
 unfoldable pub allowedWords : (mode place : ℕ) → List ℕ
-allowedWords mode place = bytesOf "nothing stops this write: its block goes down " ++ blockWords mode ++ told " under the set in place " place
+allowedWords mode place = bytesOf "nothing stops this write: its block goes down " ++ blockWords mode ++ wordsAnd " under the set in place " place
 
 -- answer 12, which is due to ENCRYPT alone
 unfoldable pub unsupportedWords : (mode place : ℕ) → List ℕ
-unsupportedWords mode place = told "the set in place " place ++ told " has encryption mode " mode ++ bytesOf " (ENCRYPT), and the volume doesn't support it"
+unsupportedWords mode place = wordsAnd "the set in place " place ++ wordsAnd " has encryption mode " mode ++ bytesOf " (ENCRYPT), and the volume doesn't support it"
 
 -- by the answer's number; no other number is a write's answer
 unfoldable pub sentenceBy : (number : ℕ) → Reason → List ℕ
@@ -111,7 +111,7 @@ sentenceBy number reason =
 
 -- request 8: "for 11 the kind and position"
 unfoldable pub stopperWords : (number kind position : ℕ) → List ℕ
-stopperWords number kind position = if eqb number 11 then told " " kind ++ told " " position else []
+stopperWords number kind position = if eqb number 11 then wordsAnd " " kind ++ wordsAnd " " position else []
 
 -- "The first is the answer's number; for 11 a space, the kind and a space, the position of the event that is the reason."
 unfoldable pub firstLine : (number kind position : ℕ) → List ℕ
@@ -128,4 +128,4 @@ reasonText reason =
 
 -- a write of a recording, by its position and what is said of it
 unfoldable pub writeText : (position : ℕ) → Reason → List ℕ
-writeText position reason = told "" position ++ bytesOf " " ++ secondLine (numberOf (reason .cause .answer)) reason
+writeText position reason = wordsAnd "" position ++ bytesOf " " ++ secondLine (numberOf (reason .cause .answer)) reason

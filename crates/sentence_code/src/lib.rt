@@ -12,7 +12,7 @@ ghost use lib.ListN.{length};
 ghost use Rattle.text.specs.Decimal.{decimal};
 ghost use Rattle.text.specs.Puts.{Put};
 ghost use Rattle.sentence.specs.Telling.{positionOf, kindName, kindWords, hasNexus, nexusWords, eventWords, deedWords, touchWords, blockWords, allowedWords, unsupportedWords, sentenceBy, stopperWords, firstLine, reasonText, writeText};
-ghost use Rattle.sentence.specs.Making.{linesMost, linesOf, nameMost, nameOf};
+ghost use Rattle.sentence.specs.Making.{linesMost, toldLines, nameMost, nameOf};
 
 // The name of each kind, by its number.
 const NAMES: [Name; 12] = [
@@ -261,7 +261,7 @@ fn put_first(bytes: &mut [u8], number: u8, kind: u8, position: usize) -> usize
 
 // The two lines of a reason.
 pub fn tell(reason: Reason) -> Lines
-    ensures { λ r. ⌜ (r ≡ linesOf (reasonText reason)) × (r .length ≤ linesMost) ⌝ }
+    ensures { λ r. ⌜ (r ≡ toldLines (reasonText reason)) × (r .length ≤ linesMost) ⌝ }
 {
     let mut bytes = [0u8; LINES_MOST];
     let cause = reason.cause;
@@ -277,7 +277,7 @@ pub fn tell(reason: Reason) -> Lines
 
 // A write of a recording, by its position and what is said of it.
 pub fn tell_write(position: usize, reason: Reason) -> Lines
-    ensures { λ r. ⌜ (r ≡ linesOf (writeText position reason)) × (r .length ≤ linesMost) ⌝ }
+    ensures { λ r. ⌜ (r ≡ toldLines (writeText position reason)) × (r .length ≤ linesMost) ⌝ }
 {
     let mut bytes = [0u8; LINES_MOST];
     let cause = reason.cause;

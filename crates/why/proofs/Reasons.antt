@@ -11,7 +11,6 @@ use Rattle.recording.specs.Files.{header, eventBytes, soundFile, callsOf}
 use Rattle.recording.specs.Verdicts.{isTaken}
 use Rattle.recording.specs.declared.Verdict.{Verdict}
 use Rattle.recording.specs.declared.Verdict.the-variants.{Done, EventsAbove, RecordingWrong}
-use Rattle.why.specs.declared.Reason.{Reason}
 use Rattle.why.specs.Causes.{causeOf}
 use Rattle.why.specs.Reasons.{whyVerdict, noReason, reasonBy, why}
 

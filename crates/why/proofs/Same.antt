@@ -33,7 +33,7 @@ use Rattle.why.specs.declared.Touch.{Touch}
 use Rattle.why.specs.declared.Watch.{Watch}
 use Rattle.why.specs.Touches.{untouched, touchBy}
 use Rattle.why.specs.Causes.{isRaised, raises, before, touchFound, stopper, raised, raiser, causeBy, causeOf}
-use Rattle.why.specs.Watching.{renewed, firstNoted, watchedBy, watched, unwatched}
+use Rattle.why.specs.Watching.{renewed, firstNoted, watched, unwatched}
 
 -- ---- a call acted on a place exactly if the place has another number
 

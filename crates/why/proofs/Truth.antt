@@ -10,14 +10,12 @@ use native.Mathlib.Nat.{mul-le-mul-left}
 use lib.ListN.{length, take, length-take}
 use lib.Seq.{getD-take}
 use Rattle.wire.proofs.Bytes.{Below}
-use Rattle.device.specs.declared.Found.the-variants.{At}
 use Rattle.drive.specs.Calls.{Call, powerUp}
 use Rattle.recording.specs.Files.{header, eventBytes, soundFile, callsOf}
 use Rattle.recording.proofs.Files.{sound-count}
-use Rattle.why.specs.declared.Reason.{Reason}
 use Rattle.why.specs.Causes.{causeOf}
-use Rattle.why.specs.Reasons.{eventAt, reasonBy, why}
-use Rattle.why.specs.Truths.{callAt, TrueReason}
+use Rattle.why.specs.Reasons.{eventAt, why}
+use Rattle.why.specs.Truths.{TrueReason}
 use Rattle.why.proofs.Reasons.{why-taken}
 use Rattle.why.proofs.Stoppers.{stopper-true, kind-recorded}
 use Rattle.why.proofs.Raisers.{another-raised, vendor-raised, used-told, unusable-told}

@@ -28,7 +28,7 @@ use Rattle.calls.proofs.Quietly.{quietOf}
 use Rattle.history.specs.History.{accepts}
 use Rattle.why.specs.declared.Watch.{Watch}
 use Rattle.why.specs.Causes.{isRaised}
-use Rattle.why.specs.Watching.{renewed, watchedBy, watched}
+use Rattle.why.specs.Watching.{watchedBy, watched}
 
 -- ---- the nexus's own page
 

@@ -36,7 +36,7 @@ use Rattle.why.specs.Touches.{untouched}
 use Rattle.why.specs.Causes.{stopper, raised, raiser, causeOf}
 use Rattle.why.specs.Reasons.{whyVerdict, noReason, why}
 use Rattle.why.specs.Watching.{watched}
-use Rattle.why.specs.Claims.{Told, tells, tellsOld, touched, uses, told, read}
+use Rattle.why.specs.Claims.{Question, asks, asksOld, byTouch, byUse, reasonsTold, reasonsRead}
 
 -- pages of 52 bytes, by their number: K, LOCAL and locked; a supplemental key; ALL; PUBLIC and locked; K unlocked; LOCAL, locked, CKORP and
 -- CKORL; ALL, locked, CKORL
@@ -104,65 +104,65 @@ abbrev above : Reason
 above = record { verdict = verdicts.Done; cause = record { answer = NexusAbove; touch = untouched; mode = 0 }; kind = 0; nexus = 0 }
 
 -- of recordings that are taken
-unfoldable pub table : List Told
+unfoldable pub table : List Question
 table =
-    tells p7 0 3 (uses Done 0 0)
-    ∷ tells p7 1 3 (uses Done 1 2)
-    ∷ tellsOld p7 1 3 (uses ParametersNotUsable 1 2)
-    ∷ tells p7 3 3 (touched ChangedByVendorEvent 2 5 0 1 Released)
-    ∷ tells p7 4 3 (touched KeyInstanceChanged 2 5 0 1 Released)
-    ∷ tellsOld p7 4 3 (touched KeyInstanceChanged 2 5 0 1 Released)
-    ∷ tells p7 4 15 (uses Done 0 0)
+    asks p7 0 3 (byUse Done 0 0)
+    ∷ asks p7 1 3 (byUse Done 1 2)
+    ∷ asksOld p7 1 3 (byUse ParametersNotUsable 1 2)
+    ∷ asks p7 3 3 (byTouch ChangedByVendorEvent 2 5 0 1 Released)
+    ∷ asks p7 4 3 (byTouch KeyInstanceChanged 2 5 0 1 Released)
+    ∷ asksOld p7 4 3 (byTouch KeyInstanceChanged 2 5 0 1 Released)
+    ∷ asks p7 4 15 (byUse Done 0 0)
     -- "after 22 and before 2": the nexus is asked last
-    ∷ tells p7 4 16 above
-    ∷ tells p7 0 255 above
-    -- the flag was raised by nexus 6's page, and again by nexus 7's; the first call that touched the set stays the first
-    ∷ tells p8 2 5 (uses Done 0 0)
-    ∷ tells p8 3 5 (touched ChangedByAnotherNexus 2 2 6 0 Established)
-    ∷ tells p8 4 5 (touched KeyInstanceChanged 2 2 6 0 Established)
-    ∷ tells p8 5 5 (touched ChangedByAnotherNexus 4 2 7 0 Replaced)
-    ∷ tells p8 6 5 (touched KeyInstanceChanged 2 2 6 0 Established)
-    ∷ tells p8 6 6 (touched ChangedByAnotherNexus 4 2 7 0 Replaced)
-    ∷ tells p8 6 7 (uses Done 0 2)
-    -- not the event that raised the flag, but the one that touched the set
-    ∷ tells untold 3 3 (touched KeyInstanceChanged 2 5 0 1 Released)
-    ∷ tells untold 5 3 (touched ChangedByAnotherNexus 4 2 6 0 Established)
-    ∷ tells untold 6 3 (touched KeyInstanceChanged 2 5 0 1 Released)
+    ∷ asks p7 4 16 above
+    ∷ asks p7 0 255 above
+    -- the flag was raised by nexus 6's page, and again by nexus 7's; the first call that byTouch the set stays the first
+    ∷ asks p8 2 5 (byUse Done 0 0)
+    ∷ asks p8 3 5 (byTouch ChangedByAnotherNexus 2 2 6 0 Established)
+    ∷ asks p8 4 5 (byTouch KeyInstanceChanged 2 2 6 0 Established)
+    ∷ asks p8 5 5 (byTouch ChangedByAnotherNexus 4 2 7 0 Replaced)
+    ∷ asks p8 6 5 (byTouch KeyInstanceChanged 2 2 6 0 Established)
+    ∷ asks p8 6 6 (byTouch ChangedByAnotherNexus 4 2 7 0 Replaced)
+    ∷ asks p8 6 7 (byUse Done 0 2)
+    -- not the event that raised the flag, but the one that byTouch the set
+    ∷ asks untold 3 3 (byTouch KeyInstanceChanged 2 5 0 1 Released)
+    ∷ asks untold 5 3 (byTouch ChangedByAnotherNexus 4 2 6 0 Established)
+    ∷ asks untold 6 3 (byTouch KeyInstanceChanged 2 5 0 1 Released)
     -- what came before the lock doesn't count
-    ∷ tells again 4 3 (uses Done 1 2)
-    ∷ tells again 5 3 (touched ChangedByVendorEvent 4 10 0 1 Released)
-    ∷ tells again 6 3 (touched KeyInstanceChanged 4 10 0 1 Released)
+    ∷ asks again 4 3 (byUse Done 1 2)
+    ∷ asks again 5 3 (byTouch ChangedByVendorEvent 4 10 0 1 Released)
+    ∷ asks again 6 3 (byTouch KeyInstanceChanged 4 10 0 1 Released)
     -- neither a supplemental key nor a refused page is the lock
-    ∷ tells extended 2 3 (uses Done 1 2)
-    ∷ tells extended 4 3 (touched KeyInstanceChanged 2 9 0 1 Released)
-    ∷ tells refused 5 3 (touched KeyInstanceChanged 1 5 0 1 Released)
+    ∷ asks extended 2 3 (byUse Done 1 2)
+    ∷ asks extended 4 3 (byTouch KeyInstanceChanged 2 9 0 1 Released)
+    ∷ asks refused 5 3 (byTouch KeyInstanceChanged 1 5 0 1 Released)
     -- nexus 1's set made room; it isn't locked, so its next write but one passes
-    ∷ tells full-house 5 1 (touched ChangedByAnotherNexus 4 2 5 1 Evicted)
-    ∷ tells full-house 5 2 (uses Done 2 2)
+    ∷ asks full-house 5 1 (byTouch ChangedByAnotherNexus 4 2 5 1 Evicted)
+    ∷ asks full-house 5 2 (byUse Done 2 2)
     -- "positions count from 0" in the whole recording
-    ∷ tells parted 3 3 (uses Done 0 0)
-    ∷ tells parted 6 3 (touched ChangedByVendorEvent 5 5 0 2 Released)
-    ∷ tells parted 7 3 (touched KeyInstanceChanged 5 5 0 2 Released)
+    ∷ asks parted 3 3 (byUse Done 0 0)
+    ∷ asks parted 6 3 (byTouch ChangedByVendorEvent 5 5 0 2 Released)
+    ∷ asks parted 7 3 (byTouch KeyInstanceChanged 5 5 0 2 Released)
     -- every kind that can be the reason
-    ∷ tells lost 3 3 (touched KeyInstanceChanged 1 6 3 1 Released)
-    ∷ tells preempted 2 3 (touched ChangedByAnotherNexus 1 8 4 1 Released)
-    ∷ tells preempted 3 3 (touched KeyInstanceChanged 1 8 4 1 Released)
-    ∷ tells unreserved 2 5 (touched ChangedByVendorEvent 1 7 0 0 Released)
-    ∷ tells unreserved 3 5 (touched KeyInstanceChanged 1 7 0 0 Released)
+    ∷ asks lost 3 3 (byTouch KeyInstanceChanged 1 6 3 1 Released)
+    ∷ asks preempted 2 3 (byTouch ChangedByAnotherNexus 1 8 4 1 Released)
+    ∷ asks preempted 3 3 (byTouch KeyInstanceChanged 1 8 4 1 Released)
+    ∷ asks unreserved 2 5 (byTouch ChangedByVendorEvent 1 7 0 0 Released)
+    ∷ asks unreserved 3 5 (byTouch KeyInstanceChanged 1 7 0 0 Released)
     ∷ []
 
 -- "a number above the event count gets 19, after 22"
-unfoldable pub refusals : List Told
+unfoldable pub refusals : List Question
 refusals =
-    tells p7 5 3 (noReason EventsAbove)
-    ∷ tells p7 65536 3 (noReason EventsAbove)
-    ∷ tells p7 5 16 (noReason EventsAbove)
-    ∷ tells (fileOf [] []) 1 3 (noReason EventsAbove)
-    ∷ tells (fileOf (event 12 0 0 0 0) []) 0 3 (noReason RecordingWrong)
-    ∷ tells (fileOf (event 12 0 0 0 0) []) 2 3 (noReason RecordingWrong)
-    ∷ tells [] 1 16 (noReason RecordingWrong)
+    asks p7 5 3 (noReason EventsAbove)
+    ∷ asks p7 65536 3 (noReason EventsAbove)
+    ∷ asks p7 5 16 (noReason EventsAbove)
+    ∷ asks (fileOf [] []) 1 3 (noReason EventsAbove)
+    ∷ asks (fileOf (event 12 0 0 0 0) []) 0 3 (noReason RecordingWrong)
+    ∷ asks (fileOf (event 12 0 0 0 0) []) 2 3 (noReason RecordingWrong)
+    ∷ asks [] 1 16 (noReason RecordingWrong)
     ∷ []
 
-pub worked : T (told table && told refusals && read table)
-unfolding told read table refusals parts formOf entryOf sound call headed soundFile eventOf askedOf runFrom foldCalls watched stopper raised raiser causeOf whyVerdict why hits bare full reads readFrom followed trailOver trail checks answer effectBy actionsOf changedBy carriedOut changes flagged cleared act acts releases ownPlace room pageActions senderAfter supplemented taken setGood nexusGood ownerIsLocal wellFormed ownedPlace selected powerOn publicPage supplementalPage setPage checked openRules modeRules plainRules keyRules setRules matchRules endRules supplementalRules listOf descriptorRules listed
+pub worked : T (reasonsTold table && reasonsTold refusals && reasonsRead table)
+unfolding reasonsTold reasonsRead table refusals parts formOf entryOf sound call headed soundFile eventOf askedOf runFrom foldCalls watched stopper raised raiser causeOf whyVerdict why hits bare full reads readFrom followed trailOver trail checks answer effectBy actionsOf changedBy carriedOut changes flagged cleared act acts releases ownPlace room pageActions senderAfter supplemented taken setGood nexusGood ownerIsLocal wellFormed ownedPlace selected powerOn publicPage supplementalPage setPage checked openRules modeRules plainRules keyRules setRules matchRules endRules supplementalRules listOf descriptorRules listed
 worked = tt

@@ -27,7 +27,7 @@ use Rattle.why.specs.Reasons.{reasonBy, why}
 use Rattle.why.specs.Watching.{watched, unwatched}
 
 -- a recording, a number of events, a nexus, the volume's support, and the reason
-pub record Told : Type 0 where
+pub record Question : Type 0 where
   pub file : List ℕ
   pub events : ℕ
   pub nexus : ℕ
@@ -35,16 +35,16 @@ pub record Told : Type 0 where
   pub reason : Reason
 
 -- on a volume that supports the algorithm
-abbrev pub tells : (file : List ℕ) → (events nexus : ℕ) → Reason → Told
-tells file events nexus reason = record { file = file; events = events; nexus = nexus; supported = true; reason = reason }
+abbrev pub asks : (file : List ℕ) → (events nexus : ℕ) → Reason → Question
+asks file events nexus reason = record { file = file; events = events; nexus = nexus; supported = true; reason = reason }
 
 -- on one that does not
-abbrev pub tellsOld : (file : List ℕ) → (events nexus : ℕ) → Reason → Told
-tellsOld file events nexus reason = record { file = file; events = events; nexus = nexus; supported = false; reason = reason }
+abbrev pub asksOld : (file : List ℕ) → (events nexus : ℕ) → Reason → Question
+asksOld file events nexus reason = record { file = file; events = events; nexus = nexus; supported = false; reason = reason }
 
 -- the event at that position, of that kind and nexus, and what it did in that place
-abbrev pub touched : Answer → (position kind nexus place : ℕ) → Deed → Reason
-touched a position kind nexus place deed = record {
+abbrev pub byTouch : Answer → (position kind nexus place : ℕ) → Deed → Reason
+byTouch a position kind nexus place deed = record {
   verdict = Done;
   cause = record { answer = a; touch = record { at = At position; place = place; deed = deed }; mode = 0 };
   kind = kind;
@@ -52,8 +52,8 @@ touched a position kind nexus place deed = record {
 }
 
 -- the set in that place, of that mode
-abbrev pub uses : Answer → (place mode : ℕ) → Reason
-uses a place mode = record { verdict = Done; cause = record { answer = a; touch = standing place; mode = mode }; kind = 0; nexus = 0 }
+abbrev pub byUse : Answer → (place mode : ℕ) → Reason
+byUse a place mode = record { verdict = Done; cause = record { answer = a; touch = standing place; mode = mode }; kind = 0; nexus = 0 }
 
 -- ---- equal, number by number
 
@@ -81,13 +81,13 @@ readCause n supported calls =
     causeBy (answer s (write n supported)) (w .first) (w .another) (w .vendor) (selected s n) (selectedSet s n .fields .encryption)
 
 -- the reasons are those told
-unfoldable pub told : List Told → Bool
-told [] = true
-told (t ∷ more) = sameList (numbers (why 16 5 (t .file) (t .events) (t .nexus) (t .supported))) (numbers (t .reason)) && told more
+unfoldable pub reasonsTold : List Question → Bool
+reasonsTold [] = true
+reasonsTold (t ∷ more) = sameList (numbers (why 16 5 (t .file) (t .events) (t .nexus) (t .supported))) (numbers (t .reason)) && reasonsTold more
 
 -- and so are those that the code reads, of recordings that are taken
-unfoldable pub read : List Told → Bool
-read [] = true
-read (t ∷ more) =
+unfoldable pub reasonsRead : List Question → Bool
+reasonsRead [] = true
+reasonsRead (t ∷ more) =
     let cause = readCause (t .nexus) (t .supported) (take (t .events) (callsOf (t .file))) in
-    sameList (numbers (reasonBy (eventBytes (t .file)) cause)) (numbers (t .reason)) && read more
+    sameList (numbers (reasonBy (eventBytes (t .file)) cause)) (numbers (t .reason)) && reasonsRead more

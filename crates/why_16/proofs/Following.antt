@@ -14,7 +14,7 @@ use Rattle.drive.specs.After.{byNumber, carriedOut}
 use Rattle.device_16.specs.Model.{state}
 use Rattle.drive_16.specs.Outcomes.{outcomeBy}
 use Rattle.drive_16.specs.declared.Outcome.{Outcome}
-use Rattle.calls.specs.Asking.{callOf, isPowerOn}
+use Rattle.calls.specs.Asking.{callOf}
 use Rattle.calls.specs.declared.Asked.{Asked}
 use Rattle.calls.specs.declared.Quiet.{Quiet}
 use Rattle.calls.proofs.Quietly.{quietOf, quiet-still}

@@ -9,5 +9,5 @@ use Rattle.session_16.specs.Sessions.{start}
 use Rattle.why.specs.Watching.{watched, unwatched}
 use Rattle.why_16.specs.declared.Followed.{Followed}
 
-abbrev pub followed : ℕ → List Call → Followed
-followed n calls = record { device = device (runFrom start calls); watch = foldCalls (watched n) 0 start calls unwatched }
+abbrev pub followedFor : ℕ → List Call → Followed
+followedFor n calls = record { device = device (runFrom start calls); watch = foldCalls (watched n) 0 start calls unwatched }

@@ -29,7 +29,7 @@ ghost use Rattle.why.specs.Touches.{deedOf, touchBy};
 ghost use Rattle.why.specs.Causes.{causeOf};
 ghost use Rattle.why.specs.Reasons.{noReason, why};
 ghost use Rattle.why.specs.Watching.{renewed, lockedBy, flaggedBy, watchedWith};
-ghost use Rattle.why_16.specs.Following.{followed};
+ghost use Rattle.why_16.specs.Following.{followedFor};
 
 // A session read for one nexus, and the record at its end.
 pub struct Followed {
@@ -177,7 +177,7 @@ fn follow_call(
 
 // The events in order, from power-on: since then the record is well formed, so check 1 isn't made.
 pub fn follow(events: &[u8], pages: &[u8], n: u8) -> Followed
-    ensures { λ r. ⌜ r ≡ followed n (calls (now (events .entry)) (now (pages .entry))) ⌝ }
+    ensures { λ r. ⌜ r ≡ followedFor n (calls (now (events .entry)) (now (pages .entry))) ⌝ }
 {
     let mut after = device_16::power_on();
     let mut watch = Watch::NONE;

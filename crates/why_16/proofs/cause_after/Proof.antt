@@ -5,7 +5,6 @@ use native.Mathlib.Omega.{arith}
 use lib.ListN.{length}
 use denote.Ref.{now}
 use Rattle.answer.specs.Answers.{numberOf}
-use Rattle.answer.specs.declared.Answer.{Answer}
 use Rattle.answer.specs.declared.Row.{Row}
 use Rattle.sizes_16.specs.Sizes.{nexusCount, placeCount}
 use Rattle.device.specs.Selecting.{selected, selectedSet}

@@ -4,7 +4,6 @@ use mathlib.Core.Bool.{Bool}
 use denote.Ref.{now}
 use Rattle.device_16.specs.Model.{state}
 use Rattle.calls.proofs.Quietly.{is-power}
-use Rattle.why.specs.declared.Watch.{Watch}
 use Rattle.why.specs.Watching.{lockedBy, flaggedBy}
 use Rattle.why_16.proofs.follow_call.Statement.{statement}
 use Rattle.why_16.proofs.follow_call.Tie as tie

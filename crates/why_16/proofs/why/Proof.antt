@@ -15,8 +15,6 @@ use Rattle.recording.specs.declared.Header.{Header}
 use Rattle.recording.specs.declared.Verdict.the-variants.{Done}
 use Rattle.recording.proofs.Entries.{calls-take}
 use Rattle.recording.proofs.Files.{sound-header, length-events}
-use Rattle.why.specs.declared.Cause.{Cause}
-use Rattle.why.specs.declared.Reason.{Reason}
 use Rattle.why.specs.Causes.{causeOf}
 use Rattle.why.specs.Reasons.{eventAt, reasonBy}
 use Rattle.why.proofs.Reasons.{why-wrong, why-above, why-taken}

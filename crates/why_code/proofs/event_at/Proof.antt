@@ -1,7 +1,6 @@
 use borrow.Author.Needs.{needs}
 use mathlib.Core.Path.{sym, ap, _∙_}
 use denote.Ref.{now}
-use Rattle.device.specs.declared.Found.{Found}
 use Rattle.why.specs.Reasons.{eventAt}
 use Rattle.why_code.proofs.event_at.Statement.{statement}
 use Rattle.why_code.proofs.event_at.Tie as tie
