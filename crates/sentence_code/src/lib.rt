@@ -9,9 +9,10 @@ ghost use mathlib.Core.Path.{_≡_};
 ghost use mathlib.Core.List.{_++_};
 ghost use Prim.Native.Nat.{_+_, _≤_};
 ghost use lib.ListN.{length};
+ghost use Rattle.answer.specs.Answers.{numberOf};
 ghost use Rattle.text.specs.Decimal.{decimal};
 ghost use Rattle.text.specs.Puts.{Put};
-ghost use Rattle.sentence.specs.Telling.{positionOf, kindName, kindWords, hasNexus, nexusWords, eventWords, deedWords, touchWords, blockWords, allowedWords, unsupportedWords, sentenceBy, stopperWords, firstLine, reasonText, writeText};
+ghost use Rattle.sentence.specs.Telling.{positionOf, kindName, kindWords, hasNexus, nexusWords, eventWords, deedWords, touchWords, blockWords, allowedWords, unsupportedWords, sentenceBy, stopperWords, firstLine, secondLine, reasonText, writeText};
 ghost use Rattle.sentence.specs.Making.{linesMost, toldLines, nameMost, nameOf};
 
 // The name of each kind, by its number.
@@ -259,19 +260,35 @@ fn put_first(bytes: &mut [u8], number: u8, kind: u8, position: usize) -> usize
     put_words(bytes, end, b"\n")
 }
 
+// Puts the second line.
+fn put_second(bytes: &mut [u8], at: usize, number: u8, reason: Reason) -> usize
+    requires { ⌜ at ≤ 64 ⌝ }
+    ensures { λ r. ⌜ Put (now (bytes .entry)) at (secondLine number reason) r (now (bytes .exit)) × (r ≤ at + 181) ⌝ }
+{
+    let end = put_sentence(bytes, at, number, reason);
+    put_words(bytes, end, b"\n")
+}
+
+// The number of the write's answer.
+fn number_of(reason: Reason) -> u8
+    ensures { λ r. ⌜ r ≡ numberOf (reason .cause .answer) ⌝ }
+{
+    let cause = reason.cause;
+    let answer = cause.answer;
+    let row = answer_code::row_of(answer);
+    row.number
+}
+
 // The two lines of a reason.
 pub fn tell(reason: Reason) -> Lines
     ensures { λ r. ⌜ (r ≡ toldLines (reasonText reason)) × (r .length ≤ linesMost) ⌝ }
 {
     let mut bytes = [0u8; LINES_MOST];
-    let cause = reason.cause;
-    let answer = cause.answer;
-    let touch = cause.touch;
+    let number = number_of(reason);
+    let touch = reason.cause.touch;
     let found = touch.at;
-    let row = answer_code::row_of(answer);
-    let second = put_first(&mut bytes, row.number, reason.kind, position_of(found));
-    let end = put_sentence(&mut bytes, second, row.number, reason);
-    let length = put_words(&mut bytes, end, b"\n");
+    let second = put_first(&mut bytes, number, reason.kind, position_of(found));
+    let length = put_second(&mut bytes, second, number, reason);
     Lines { bytes, length }
 }
 
@@ -280,12 +297,8 @@ pub fn tell_write(position: usize, reason: Reason) -> Lines
     ensures { λ r. ⌜ (r ≡ toldLines (writeText position reason)) × (r .length ≤ linesMost) ⌝ }
 {
     let mut bytes = [0u8; LINES_MOST];
-    let cause = reason.cause;
-    let answer = cause.answer;
-    let row = answer_code::row_of(answer);
     let space = put_told(&mut bytes, 0, b"", position as u64);
     let second = put_words(&mut bytes, space, b" ");
-    let end = put_sentence(&mut bytes, second, row.number, reason);
-    let length = put_words(&mut bytes, end, b"\n");
+    let length = put_second(&mut bytes, second, number_of(reason), reason);
     Lines { bytes, length }
 }
