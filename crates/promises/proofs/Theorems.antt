@@ -174,7 +174,7 @@ pub use Rattle.why.proofs.Reasons.{why-wrong, why-above, why-taken}
 pub use Rattle.why.proofs.Truth.{why-true}
 -- The parts of it, of any calls since power-on.
 pub use Rattle.why.proofs.Stoppers.{stopper-true, kind-recorded}
-pub use Rattle.why.proofs.Raisers.{another-raised, vendor-raised, used-told, unusable-told, never-unformed, above-told}
+pub use Rattle.why.proofs.Raisers.{another-raised, vendor-raised, used-told, unusable-told, never-unformed, above-told, bare-told, modeless-told}
 -- What touches the set of a locked nexus is an event that released it, or another nexus's ALL page: never an eviction, never its own page.
 pub use Rattle.why.proofs.DeedsStopped.{stopped-by, never-evicted}
 -- What raises a flag acted on the place whose set the nexus used; the nexus was registered, and another acted, or nobody.

@@ -132,7 +132,7 @@ module _ (nexuses places n : ℕ) (supported : Bool) (calls : List Call) where
 
   -- a cause that names the set in use
   in-use : cause .touch ≡ standing (selected last n) → cause .mode ≡ selectedSet last n .fields .encryption → InUse last n cause
-  in-use t m = record { untold = ap (λ (x : Touch). x .at) t; place = ap (λ (x : Touch). x .place) t; mode = m }
+  in-use t m = record { untold = ap (λ (x : Touch). x .at) t; undone = ap (λ (x : Touch). x .deed) t; place = ap (λ (x : Touch). x .place) t; mode = m }
 
   -- 0 and 12: no call is named; the place is the one whose set the nexus uses, and the mode is that set's.
   pub used-told : (numberOf (cause .answer) ≡ 0) ⊎ (numberOf (cause .answer) ≡ 12) → InUse (run nexuses places calls) n cause
@@ -156,6 +156,13 @@ module _ (nexuses places n : ℕ) (supported : Bool) (calls : List Call) where
       let long : length (last .nexuses) ≤ n = omega (arith, run-size calls (powerOn nexuses places) .nexuses, power-nexuses nexuses places, above) in
       let e : numberOf (cause .answer) ≡ 2 = number-is ∙ above-number last n supported (since-power-on nexuses places some room calls) long in
       (e, (touch-is 2 e, mode-is 2 e))
+
+  -- 2 names nothing; and any answer but 0 and 12 has no mode.
+  pub bare-told : numberOf (cause .answer) ≡ 2 → cause .touch ≡ untouched
+  bare-told = touch-is 2
+
+  pub modeless-told : (numberOf (cause .answer) ≡ 0 → ⊥) → (numberOf (cause .answer) ≡ 12 → ⊥) → cause .mode ≡ 0
+  modeless-told a b = mode-is (numberOf (cause .answer)) refl ∙ simp (ne-eqb (numberOf (cause .answer)) 0 a, ne-eqb (numberOf (cause .answer)) 12 b)
 
 -- ---- one call after another
 

@@ -11,6 +11,7 @@ use lib.ListN.{length, take, length-take}
 use lib.Seq.{getD-take}
 use Rattle.wire.proofs.Bytes.{Below}
 use Rattle.drive.specs.Calls.{Call, powerUp}
+use Rattle.recording.specs.Entries.{entryOf}
 use Rattle.recording.specs.Files.{header, eventBytes, soundFile, callsOf}
 use Rattle.recording.proofs.Files.{sound-count}
 use Rattle.why.specs.Causes.{causeOf}
@@ -18,21 +19,25 @@ use Rattle.why.specs.Reasons.{eventAt, why}
 use Rattle.why.specs.Truths.{TrueReason}
 use Rattle.why.proofs.Reasons.{why-taken}
 use Rattle.why.proofs.Stoppers.{stopper-true, kind-recorded}
-use Rattle.why.proofs.Raisers.{another-raised, vendor-raised, used-told, unusable-told}
+use Rattle.why.proofs.Raisers.{another-raised, vendor-raised, used-told, unusable-told, bare-told, modeless-told}
 
 -- The reason that is given of a recording after so many events is the true one.
 pub why-true : (nexuses places : ℕ) → 0 < nexuses → 0 < places → places + 2 ≤ 65536 → (file : List ℕ) → Below file → soundFile file ≡ true → (events : ℕ) → events ≤ header file .eventCount
     → (n : ℕ) (supported : Bool) → TrueReason nexuses places file events n supported (why nexuses places file events n supported)
-unfolding causeOf
+unfolding causeOf entryOf
 why-true nexuses places some room size file bytes sound events h n supported =
     subst (TrueReason nexuses places file events n supported) (why-taken nexuses places file events n supported sound h)
     (record {
+      taken = refl;
       answered = refl;
       stopped = λ e. stopper-true nexuses places some room calls few n supported e;
       anothers = λ e. another-raised nexuses places room calls few n supported e;
       vendors = λ e. vendor-raised nexuses places room calls few n supported e;
       used = λ e. used-told nexuses places n supported calls e;
       unusable = λ e. unusable-told nexuses places n supported calls e;
+      bare = λ e. bare-told nexuses places n supported calls e;
+      modeless = λ a b. modeless-told nexuses places n supported calls a b;
+      unrecorded = λ e. (ap (λ f. eventAt (eventBytes file) f .kind) e, ap (λ f. eventAt (eventBytes file) f .nexus) e);
       recorded = λ position e within. (
         ap (λ f. eventAt (eventBytes file) f .kind) e,
         ap (λ f. eventAt (eventBytes file) f .nexus) e,

@@ -20,9 +20,12 @@ use Rattle.drive.specs.Runs.{run}
 use Rattle.recording.specs.Entries.{call}
 use Rattle.recording.specs.Files.{eventBytes, pageBytes, callsOf}
 use Rattle.history.specs.History.{reading, Latest, placeLeft, First}
+use Rattle.recording.specs.declared.Verdict.the-variants.{Done}
+use Rattle.why.specs.declared.Deed.the-variants.{Untouched}
 use Rattle.why.specs.declared.Touch.{Touch}
 use Rattle.why.specs.declared.Cause.{Cause}
 use Rattle.why.specs.declared.Reason.{Reason}
+use Rattle.why.specs.Touches.{untouched}
 use Rattle.why.specs.Causes.{before}
 use Rattle.why.specs.Reasons.{eventAt}
 use Rattle.why.specs.Deeds.{StoppedBy, deedTo, isOther, isNobody, RaisedBy}
@@ -62,20 +65,25 @@ module _ (nexuses places n : ℕ) (calls : List Call) (touch : Touch) where
 -- 0 and 12: the set in use
 pub record InUse (s : State) (n : ℕ) (cause : Cause) : Type 0 where
   pub untold : cause .touch .at ≡ Nowhere
+  pub undone : cause .touch .deed ≡ Untouched
   pub place : cause .touch .place ≡ selected s n
   pub mode : cause .mode ≡ selectedSet s n .fields .encryption
 
 -- ---- a recording's reason, after so many events
 
--- "the write, tried at that point, gives that answer"; what is told besides is true of the calls up to there; and the kind and nexus told are
--- those that the recording has of the call at that position
+-- "the write, tried at that point, gives that answer"; what is told besides is true of the calls up to there; the kind and nexus told are
+-- those that the recording has of the call at that position; and every other field is zero
 pub record TrueReason (nexuses places : ℕ) (file : List ℕ) (events n : ℕ) (supported : Bool) (r : Reason) : Type 0 where
+  pub taken : r .verdict ≡ Done
   pub answered : r .cause .answer ≡ answer (run nexuses places (take events (callsOf file))) (write n supported)
   pub stopped : numberOf (r .cause .answer) ≡ 11 → Stops nexuses places n (take events (callsOf file)) (r .cause .touch)
   pub anothers : numberOf (r .cause .answer) ≡ 3 → Raises nexuses places n (take events (callsOf file)) (r .cause .touch) (λ m. m .another) (isOther n)
   pub vendors : numberOf (r .cause .answer) ≡ 4 → Raises nexuses places n (take events (callsOf file)) (r .cause .touch) (λ m. m .vendor) isNobody
   pub used : (numberOf (r .cause .answer) ≡ 0) ⊎ (numberOf (r .cause .answer) ≡ 12) → InUse (run nexuses places (take events (callsOf file))) n (r .cause)
   pub unusable : numberOf (r .cause .answer) ≡ 12 → (r .cause .mode ≡ encrypt) × (supported ≡ false)
+  pub bare : numberOf (r .cause .answer) ≡ 2 → r .cause .touch ≡ untouched
+  pub modeless : (numberOf (r .cause .answer) ≡ 0 → ⊥) → (numberOf (r .cause .answer) ≡ 12 → ⊥) → r .cause .mode ≡ 0
+  pub unrecorded : r .cause .touch .at ≡ Nowhere → (r .kind ≡ 0) × (r .nexus ≡ 0)
   pub recorded : (position : ℕ) → r .cause .touch .at ≡ At position → position < events → let e = eventAt (eventBytes file) (At position) in
       (r .kind ≡ e .kind) × (r .nexus ≡ e .nexus) × (call (pageBytes file) e ≡ callAt (take events (callsOf file)) position)
 
