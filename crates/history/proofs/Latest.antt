@@ -97,7 +97,7 @@ run-good n k s calls b f x =
 -- ---- the write
 
 -- checks 11 and 12 answer 11 exactly if check 11 finds a fault
-pub own-eleven : (a b : Bool) → eqb (numberOf (firstOf (answerIf a KeyInstanceChanged ∷ answerIf b ParametersNotUsable ∷ []))) 11 ≡ a
+own-eleven : (a b : Bool) → eqb (numberOf (firstOf (answerIf a KeyInstanceChanged ∷ answerIf b ParametersNotUsable ∷ []))) 11 ≡ a
 own-eleven true b = refl
 own-eleven false true = refl
 own-eleven false false = refl

@@ -6,9 +6,9 @@ use device::Found;
 use libc::STDERR_FILENO;
 use libc::STDIN_FILENO;
 use libc::STDOUT_FILENO;
-use sentence::LINES_MOST;
-use sentence::Lines;
 use sizes_16::NEXUSES;
+use text::LINES_MOST;
+use text::Lines;
 use text::Number;
 
 // The most events of a recording, and one.

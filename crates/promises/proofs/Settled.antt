@@ -21,6 +21,8 @@ pub use Rattle.wire_code.proofs.Settled.{part-settles as wire-code-part-settles
 -- crate text_code
 pub use Rattle.text_code.proofs.Settled.{put-decimal-settles as text-code-put-decimal-settles}
 pub use Rattle.text_code.proofs.Settled.{read-decimal-settles as text-code-read-decimal-settles}
+pub use Rattle.text_code.proofs.Settled.{and-words-settles as text-code-and-words-settles}
+pub use Rattle.text_code.proofs.Settled.{and-number-settles as text-code-and-number-settles}
 -- crate answer_code
 pub use Rattle.answer_code.proofs.Settled.{row-of-settles as answer-code-row-of-settles}
 pub use Rattle.answer_code.proofs.Settled.{sense-of-settles as answer-code-sense-of-settles}
@@ -107,6 +109,7 @@ pub use Rattle.recording_code.proofs.Settled.{sound-run-settles as recording-co
 pub use Rattle.recording_code.proofs.Settled.{asked-of-settles as recording-code-asked-of-settles}
 pub use Rattle.recording_code.proofs.Settled.{page-of-settles as recording-code-page-of-settles}
 pub use Rattle.recording_code.proofs.Settled.{header-of-settles as recording-code-header-of-settles}
+pub use Rattle.recording_code.proofs.Settled.{header-bytes-settles as recording-code-header-bytes-settles}
 pub use Rattle.recording_code.proofs.Settled.{events-of-settles as recording-code-events-of-settles}
 pub use Rattle.recording_code.proofs.Settled.{pages-of-settles as recording-code-pages-of-settles}
 pub use Rattle.recording_code.proofs.Settled.{is-sound-file-settles as recording-code-is-sound-file-settles}
@@ -136,3 +139,6 @@ pub use Rattle.why_code.proofs.Settled.{event-at-settles as why-code-event-at-s
 -- crate sentence_code
 pub use Rattle.sentence_code.proofs.Settled.{tell-settles as sentence-code-tell-settles}
 pub use Rattle.sentence_code.proofs.Settled.{tell-write-settles as sentence-code-tell-write-settles}
+-- crate salvage_code
+pub use Rattle.salvage_code.proofs.Settled.{salvage-settles as salvage-code-salvage-settles}
+pub use Rattle.salvage_code.proofs.Settled.{tell-settles as salvage-code-tell-settles}

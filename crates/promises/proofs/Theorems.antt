@@ -189,3 +189,12 @@ pub use Rattle.why.proofs.Parts.{starts-again, later-events-unread}
 pub use Rattle.why.proofs.Worked.{table as reason-table, refusals as reason-refusals, worked as reasons-proved}
 pub use Rattle.sentence.proofs.Worked.{table-told, modes-told, events-told, others-told, nexuses-recorded}
 pub use Rattle.sentence.proofs.Fits.{text-fits}
+-- Document 02, request 12: 21 is due where the request says, and nowhere else.
+pub use Rattle.salvage.proofs.Due.{salvage-due}
+-- The new file: replay takes it; its events are the longest run, from the first and ending by the stored page offset, with which it does; its
+-- page bytes are those from the stored page offset to the file's end; its header is right and fits.
+pub use Rattle.salvage.proofs.Saved.{saved}
+-- A sound file comes out byte for byte the same, with nothing reported changed; salvaging twice is salvaging once.
+pub use Rattle.salvage.proofs.Same.{sound-unchanged, salvaged-twice}
+-- Replaying the new file gives the answers that the kept events give, and the record that they leave.
+pub use Rattle.salvage.proofs.Replayed.{kept-replayed}

@@ -50,12 +50,12 @@ entry-take n bytes h =
 
 module _ (pageCount : ℕ) where
   -- a sound event counts, and the others after it
-  run-sound : (e : Entry) (more : List Entry) → sound pageCount e ≡ true → soundRun pageCount (e ∷ more) ≡ suc (soundRun pageCount more)
+  pub run-sound : (e : Entry) (more : List Entry) → sound pageCount e ≡ true → soundRun pageCount (e ∷ more) ≡ suc (soundRun pageCount more)
   unfolding soundRun
   run-sound e more t = simp t
 
   -- one that isn't ends the run
-  run-stops : (e : Entry) (more : List Entry) → sound pageCount e ≡ false → soundRun pageCount (e ∷ more) ≡ 0
+  pub run-stops : (e : Entry) (more : List Entry) → sound pageCount e ≡ false → soundRun pageCount (e ∷ more) ≡ 0
   unfolding soundRun
   run-stops e more f = simp f
 

@@ -1,4 +1,5 @@
 pub mod Entries
+pub mod Runs
 pub mod Files
 pub mod Exactly
 pub mod Events

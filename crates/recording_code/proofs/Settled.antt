@@ -15,6 +15,8 @@ use Rattle.recording_code.proofs.page_of.Reads as page-of
 use Rattle.recording_code.proofs.page_of.Kinds as page-of-kinds
 use Rattle.recording_code.proofs.header_of.Reads as header-of
 use Rattle.recording_code.proofs.header_of.Kinds as header-of-kinds
+use Rattle.recording_code.proofs.header_bytes.Reads as header-bytes
+use Rattle.recording_code.proofs.header_bytes.Kinds as header-bytes-kinds
 use Rattle.recording_code.proofs.events_of.Reads as events-of
 use Rattle.recording_code.proofs.events_of.Kinds as events-of-kinds
 use Rattle.recording_code.proofs.pages_of.Reads as pages-of
@@ -39,6 +41,9 @@ page-of-settles κs a x y s t p q = same p q
 
 pub header-of-settles : SettlesAnswer 1 header-of-kinds.ps header-of-kinds.r header-of.Post
 header-of-settles κs a x y s t p q = same p q
+
+pub header-bytes-settles : SettlesAnswer 0 header-bytes-kinds.ps header-bytes-kinds.r header-bytes.Post
+header-bytes-settles κs a x y s t p q = same p q
 
 pub events-of-settles : SettlesPart 1 events-of-kinds.ps events-of-kinds.r (List ℕ) (λ κs x. now x) events-of.Post
 events-of-settles κs a x y s t p q = same (p .0) (q .0)

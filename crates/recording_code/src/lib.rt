@@ -14,7 +14,7 @@ ghost use Rattle.arrays.specs.Base.{if_then_else_};
 ghost use Rattle.recording.specs.Verdicts.{verdictNumber};
 ghost use Rattle.recording.specs.Forms.{formOf};
 ghost use Rattle.recording.specs.Entries.{entryOf, sound, entries, soundRun, eventAsked, eventPage};
-ghost use Rattle.recording.specs.Files.{header, headed, eventBytes, pageBytes, soundFile};
+ghost use Rattle.recording.specs.Files.{header, headed, eventBytes, pageBytes, soundFile, headerBytes};
 
 // What the fields of an event may hold, by its kind's number.
 const FORMS: [Form; 12] = [
@@ -127,6 +127,26 @@ pub fn header_of(file: &[u8]) -> Header
         pagesFrom: wire_code::word_at(file, 4),
         total: wire_code::word_at(file, 6),
     }
+}
+
+// A header's 8 bytes: of each number its lower 16 bits.
+pub fn header_bytes(h: Header) -> [u8; HEADER_SIZE]
+    ensures { λ r. ⌜ r ≡ headerBytes h ⌝ }
+{
+    let count = wire_code::two((h.eventCount % 65536) as u16);
+    let first = wire_code::two((h.firstEvent % 65536) as u16);
+    let from = wire_code::two((h.pagesFrom % 65536) as u16);
+    let total = wire_code::two((h.total % 65536) as u16);
+    [
+        count[0],
+        count[1],
+        first[0],
+        first[1],
+        from[0],
+        from[1],
+        total[0],
+        total[1],
+    ]
 }
 
 // A header with right numbers.

@@ -23,7 +23,7 @@ use Rattle.why.specs.declared.Deed.{Deed}
 use Rattle.why.specs.declared.Deed.the-variants.{Untouched, Established, Replaced, Evicted, Released}
 use Rattle.why.specs.declared.Reason.{Reason}
 use Rattle.sentence.specs.Telling.{positionOf, kindNames, kindWords, hasNexus, nexusWords, eventWords, deedWords, touchWords, blockWords, allowedWords, unsupportedWords, sentenceBy, stopperWords, firstLine, secondLine, reasonText}
-use Rattle.sentence.specs.Making.{linesMost}
+use Rattle.text.specs.Making.{linesMost}
 
 -- ---- texts of at most so many bytes
 

@@ -3,17 +3,8 @@ use Prim.Native.Nat.{ℕ, _-_}
 use Prim.Native.String.{String}
 use mathlib.Core.List.{List, _++_}
 use lib.ListN.{length, replicate}
-use Rattle.wire.specs.Buffers.{padded}
 use Rattle.text.specs.Characters.{bytesOf}
-use Rattle.sentence.specs.declared.Lines.{Lines}
 use Rattle.sentence.specs.declared.Name.{Name}
-
-abbrev pub linesMost : ℕ
-linesMost = 256
-
--- lines by themselves: their text, and zeros after it
-unfoldable pub toldLines : List ℕ → Lines
-toldLines text = record { bytes = padded linesMost text; length = length text }
 
 -- a name, and spaces after it
 abbrev pub nameMost : ℕ

@@ -1,14 +1,5 @@
 // Document 02, request 8: the text of a reason, as docs/REASONS.md has it.
 
-// The most bytes of the two lines: their words, and six numbers of 20 digits.
-pub const LINES_MOST: usize = 256;
-
-// The two lines, their first bytes; zeros after them.
-pub struct Lines {
-    pub bytes: [u8; LINES_MOST],
-    pub length: usize,
-}
-
 // The most bytes of a kind's name.
 pub const NAME_MOST: usize = 23;
 

@@ -1,8 +1,8 @@
 // Document 02, request 8: a reason told in two lines, as docs/REASONS.md has them.
 use device::Found;
-use sentence::LINES_MOST;
-use sentence::Lines;
 use sentence::Name;
+use text::LINES_MOST;
+use text::Lines;
 use why::Deed;
 use why::Reason;
 ghost use mathlib.Core.Path.{_≡_};
@@ -12,8 +12,9 @@ ghost use lib.ListN.{length};
 ghost use Rattle.answer.specs.Answers.{numberOf};
 ghost use Rattle.text.specs.Decimal.{decimal};
 ghost use Rattle.text.specs.Puts.{Put};
+ghost use Rattle.text.specs.Making.{linesMost, toldLines};
 ghost use Rattle.sentence.specs.Telling.{positionOf, kindName, kindWords, hasNexus, nexusWords, eventWords, deedWords, touchWords, blockWords, allowedWords, unsupportedWords, sentenceBy, stopperWords, firstLine, secondLine, reasonText, writeText};
-ghost use Rattle.sentence.specs.Making.{linesMost, toldLines, nameMost, nameOf};
+ghost use Rattle.sentence.specs.Making.{nameMost, nameOf};
 
 // The name of each kind, by its number.
 const NAMES: [Name; 12] = [

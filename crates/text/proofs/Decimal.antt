@@ -158,7 +158,7 @@ unfolding readAfter
 read-grows n [] = omega arith
 read-grows n (c ∷ text) = omega (arith, read-grows (10 * n + (c - zeroDigit)) text)
 
-at-most : (most n : ℕ) → most ≤ n → atMost most n ≡ most
+pub at-most : (most n : ℕ) → most ≤ n → atMost most n ≡ most
 at-most most n h = cases (leb n most) (λ t. rw t (omega (arith, h, leb-true n most t))) (λ f. rw f refl)
 
 -- it may be told so at each digit

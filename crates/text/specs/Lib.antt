@@ -3,3 +3,4 @@ pub mod Decimal
 pub mod Spelled
 pub mod Pieces
 pub mod Puts
+pub mod Making

@@ -1,4 +1,4 @@
-// Text for a person: characters, and numbers in decimal.
+// Text for a person: characters, numbers in decimal, and a few lines by value.
 
 // The character 0.
 pub const ZERO_DIGIT: u8 = 48;
@@ -13,4 +13,13 @@ pub const READ_MOST: u64 = 1000000000000000000;
 pub struct Number {
     pub decimal: bool,
     pub value: u64,
+}
+
+// The most bytes of lines made by value.
+pub const LINES_MOST: usize = 256;
+
+// A few lines, their first bytes; zeros after them.
+pub struct Lines {
+    pub bytes: [u8; LINES_MOST],
+    pub length: usize,
 }

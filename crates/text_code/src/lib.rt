@@ -1,5 +1,7 @@
-// Numbers in decimal, written and read.
+// Numbers in decimal, written and read; lines made by value.
 use text::DIGITS_MOST;
+use text::LINES_MOST;
+use text::Lines;
 use text::Number;
 use text::READ_MOST;
 use text::ZERO_DIGIT;
@@ -8,6 +10,7 @@ ghost use Prim.Native.Nat.{_+_, _*_, _-_, _≤_, _<_};
 ghost use lib.ListN.{length};
 ghost use lib.Seq.{sets};
 ghost use Rattle.text.specs.Decimal.{zeroDigit, digit, decimal, isDigit, readMost, atMost, numberTold};
+ghost use Rattle.text.specs.Making.{linesMost, andText};
 
 // The character of a number below 10.
 fn digit(d: u64) -> u8
@@ -70,5 +73,44 @@ pub fn read_decimal(text: &[u8]) -> Number
     Number {
         decimal: (0 < text.len()) & digits,
         value,
+    }
+}
+
+// A length of lines with so many bytes more, or the most.
+fn length_and(length: usize, more: usize) -> usize
+    ensures { λ r. ⌜ r ≡ atMost linesMost (length + more) ⌝ }
+{
+    if LINES_MOST < length {
+        return LINES_MOST;
+    }
+    if LINES_MOST - length < more {
+        return LINES_MOST;
+    }
+    length + more
+}
+
+// Lines with words more, as many of their bytes as there is room for.
+pub fn and_words(lines: Lines, words: &[u8]) -> Lines
+    ensures { λ r. ⌜ r ≡ andText lines (now (words .entry)) ⌝ }
+{
+    let mut bytes = lines.bytes;
+    let at = lines.length;
+    wire_code::put(&mut bytes, at, words);
+    Lines {
+        bytes,
+        length: length_and(at, words.len()),
+    }
+}
+
+// Lines with a number more, of at most 20 digits.
+pub fn and_number(lines: Lines, n: u64) -> Lines
+    ensures { λ r. ⌜ (r ≡ andText lines (decimal n)) × (length (decimal n) ≤ 20) ⌝ }
+{
+    let mut bytes = lines.bytes;
+    let at = lines.length;
+    let digits = put_decimal(&mut bytes, at, n);
+    Lines {
+        bytes,
+        length: length_and(at, digits),
     }
 }

@@ -20,12 +20,12 @@ use Rattle.device.specs.declared.Found.{Found}
 use Rattle.device.specs.declared.Found.the-variants.{At, Nowhere}
 use Rattle.places.proofs.Lengths.{power-places, power-nexuses}
 use Rattle.drive.specs.Calls.{Call, powerUp}
-use Rattle.drive.specs.Checks.{check1, heardOf, instanceChanged, notUsable, permitted, checks, answer}
+use Rattle.drive.specs.Checks.{check1, heardOf, permitted, checks, answer}
 use Rattle.drive.specs.Effects.{effect}
 use Rattle.drive.specs.After.{byNumber, actions, after}
 use Rattle.drive.specs.Runs.{runFrom, run}
 use Rattle.drive.proofs.Checks.{first-stops, first-told, all-done, passed}
-use Rattle.drive.proofs.Effects.{isRestart, own-answer}
+use Rattle.drive.proofs.Effects.{isRestart}
 use Rattle.kept.proofs.Runs.{since-power-on}
 use Rattle.recording.specs.Entries.{entrySize, entryOf, call, calls}
 use Rattle.recording.specs.Files.{header, eventBytes, pageBytes, soundFile, callsOf}
@@ -38,7 +38,6 @@ use Rattle.history.proofs.Draws.{draws-few}
 use Rattle.history.proofs.Held.{View}
 use Rattle.history.proofs.Others.{other-unseen, other-foreign}
 use Rattle.history.proofs.Good.{power-unlocked, lock-kept}
-use Rattle.history.proofs.Latest.{own-eleven}
 use Rattle.history.proofs.Demand.{first-touch}
 use Rattle.why.specs.declared.Touch.{Touch}
 use Rattle.why.specs.Causes.{before, touchFound, stopper, causeOf}
@@ -46,6 +45,7 @@ use Rattle.why.specs.Touches.{deedOf}
 use Rattle.why.specs.Deeds.{StoppedBy, deedTo}
 use Rattle.why.specs.Reasons.{eventAt}
 use Rattle.why.specs.Truths.{callAt, Stops}
+use Rattle.why.proofs.Raisers.{write-fault}
 use Rattle.why.proofs.Same.{at-call, touch-here, few-calm}
 use Rattle.why.proofs.DeedsStopped.{stopped-by}
 use Rattle.why.proofs.DeedsRaised.{acts-stayed}
@@ -66,11 +66,9 @@ module _ (s : State) (n : ℕ) where
   heard-known : isHeard s n ≡ true → n < length (s .nexuses)
   heard-known h = leb-false _ _ (passed (leb (length (s .nexuses)) n) NexusAbove refl (all-done (check1 s ∷ heardOf s n) h .1 .0))
 
-  -- and is locked
+  -- and is locked: check 11 found a fault
   stopped-locked : (supported : Bool) → isStopped s n supported ≡ true → nexusAt s n .lock ≡ true
-  stopped-locked supported e =
-      let same = ap (λ a. eqb (numberOf a) 11) (own-answer s n supported (stopped-heard supported e)) ∙ own-eleven (instanceChanged (nexusAt s n) (selectedSet s n)) (notUsable (selectedSet s n) supported) in
-      and-left (nexusAt s n .lock) (not (eqb (nexusAt s n .saved) (selectedSet s n .number))) (sym same ∙ e)
+  stopped-locked supported e = and-left _ _ (write-fault s n supported 11 (omega arith) (eqb-true _ 11 e))
 
 -- ---- calls during which a nexus sends no page and stays locked
 

@@ -3,8 +3,8 @@ use mathlib.Core.Path.{ap₂}
 use mathlib.Core.List.{_++_}
 use native.Mathlib.Omega.{arith}
 use Rattle.text.proofs.Puts.{put-as, put-then}
+use Rattle.text.proofs.Making.{lines-made}
 use Rattle.sentence.specs.Telling.{firstLine, secondLine, reasonText}
-use Rattle.sentence.proofs.Making.{lines-made}
 use Rattle.sentence_code.proofs.tell.Statement.{statement}
 use Rattle.sentence_code.proofs.tell.Tie as tie
 

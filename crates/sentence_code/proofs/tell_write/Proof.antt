@@ -4,8 +4,8 @@ use mathlib.Core.List.{_++_}
 use native.Mathlib.Omega.{arith}
 use Rattle.text.specs.Characters.{bytesOf}
 use Rattle.text.proofs.Puts.{put-as, put-then}
+use Rattle.text.proofs.Making.{lines-made}
 use Rattle.sentence.specs.Telling.{wordsAnd, secondLine, writeText}
-use Rattle.sentence.proofs.Making.{lines-made}
 use Rattle.sentence_code.proofs.tell_write.Statement.{statement}
 use Rattle.sentence_code.proofs.tell_write.Tie as tie
 

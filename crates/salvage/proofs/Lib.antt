@@ -1,0 +1,6 @@
+pub mod Due
+pub mod Saved
+pub mod Same
+pub mod Replayed
+pub mod Saving
+pub mod Worked

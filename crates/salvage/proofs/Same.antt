@@ -1,0 +1,62 @@
+-- A sound file comes out byte for byte the same, with nothing reported changed; so does what was salvaged, salvaged again.
+-- Assumes nothing.
+use Prim.Native.Nat.{ℕ, _*_, _/_, _≤_}
+use mathlib.Core.Path.{_≡_, ap, ap₂, _∙_}
+use mathlib.Core.Bool.{true}
+use mathlib.Core.List.{List}
+use native.Mathlib.Omega.{arith}
+use lib.ListN.{length}
+use lib.Seq.{take-all}
+use borrow.Author.Tests.{eqb-true}
+use Rattle.arrays.proofs.Base.{if-true}
+use Rattle.wire.proofs.Bytes.{Below}
+use Rattle.recording.specs.declared.Verdict.the-variants.{Done}
+use Rattle.recording.specs.Entries.{entries, soundRun}
+use Rattle.recording.specs.Files.{header, eventBytes, pageBytes, soundFile, fileOf}
+use Rattle.recording.proofs.Entries.{run-told}
+use Rattle.recording.proofs.Files.{sound-header, sound-events, length-events}
+use Rattle.recording.proofs.Made.{made-again}
+use Rattle.salvage.specs.Salvage.{keptCount, keptEvents, salvaged, droppedCount, isSalvageable}
+use Rattle.salvage.specs.Saved.{Salvageable, Unchanged}
+use Rattle.salvage.proofs.Due.{told-salvageable}
+use Rattle.salvage.proofs.Saved.{new-events, new-pages, saved}
+
+-- a sound file of at most 65,535 bytes can be salvaged, and all its events are kept
+module _ (file : List ℕ) (small : length file ≤ 65535) (sound : soundFile file ≡ true) where
+  pub sound-salvageable : Salvageable file
+  sound-salvageable = let head = sound-header file sound in record { small = small; events = header file .eventCount; counted = head .counted; within = head .within }
+
+  all-kept : 8 * keptCount file ≡ length (eventBytes file)
+  unfolding keptCount
+  all-kept =
+      let run = soundRun (length (pageBytes file)) (entries (eventBytes file)) in
+      let told = run-told (length (pageBytes file)) (eventBytes file) ∙ sound-events file sound in
+      omega (arith, eqb-true run (length (eventBytes file) / 8) told, length-events file (sound-header file sound))
+
+  pub events-kept : keptEvents file ≡ eventBytes file
+  events-kept = take-all (8 * keptCount file) (eventBytes file) (omega (arith, all-kept))
+
+  -- so it is unchanged, where it is the file that is made of its parts
+  pub parts-unchanged : fileOf (eventBytes file) (pageBytes file) ≡ file → Unchanged file
+  parts-unchanged made =
+      let same : salvaged file ≡ file = ap (λ (events : List ℕ). fileOf events (pageBytes file)) events-kept ∙ made in
+      let none : droppedCount file ≡ 0 = omega (arith, all-kept) in
+      record {
+        same = same;
+        reports =
+            if-true (isSalvageable file) _ _ (told-salvageable file sound-salvageable)
+            ∙ (λ i. record { verdict = Done; old = header file; new = header (same i); dropped = none i });
+      }
+
+-- A sound file comes out byte for byte the same, with nothing reported changed.
+pub sound-unchanged : (file : List ℕ) → Below file → soundFile file ≡ true → Unchanged file
+sound-unchanged file bytes sound =
+    let small : length file ≤ 65535 = omega (arith, sound-header file sound .whole, bytes 6, bytes 7) in
+    parts-unchanged file small sound (made-again file bytes sound)
+
+-- Salvaging twice is salvaging once.
+pub salvaged-twice : (file : List ℕ) → Salvageable file → Unchanged (salvaged file)
+salvaged-twice file w =
+    let s = saved file w in
+    parts-unchanged (salvaged file) (omega (arith, s .shrinks, w .small)) (s .taken)
+    (ap₂ (λ (events pages : List ℕ). fileOf events pages) (new-events file w) (new-pages file w))

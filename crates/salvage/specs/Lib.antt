@@ -1,0 +1,4 @@
+pub mod Salvage
+pub mod Reports
+pub mod Saved
+pub mod Claims
