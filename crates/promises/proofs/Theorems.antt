@@ -194,7 +194,11 @@ pub use Rattle.salvage.proofs.Due.{salvage-due}
 -- The new file: replay takes it; its events are the longest run, from the first and ending by the stored page offset, with which it does; its
 -- page bytes are those from the stored page offset to the file's end; its header is right and fits.
 pub use Rattle.salvage.proofs.Saved.{saved}
+-- A buffer of 65,535 bytes has room for every new file.
+pub use Rattle.salvage.proofs.Saving.{written-whole}
 -- A sound file comes out byte for byte the same, with nothing reported changed; salvaging twice is salvaging once.
 pub use Rattle.salvage.proofs.Same.{sound-unchanged, salvaged-twice}
 -- Replaying the new file gives the answers that the kept events give, and the record that they leave.
 pub use Rattle.salvage.proofs.Replayed.{kept-replayed}
+-- Files salvaged by computing: the verdict, each byte of the buffer, and the report to the character.
+pub use Rattle.salvage.proofs.Worked.{table as salvage-table, limits as salvage-limits, table-salvaged, limits-salvaged, most-kept}

@@ -6,6 +6,7 @@ use mathlib.Core.List.{List, [], _∷_, _++_}
 use mathlib.Core.Path.{_≡_, refl, sym, ap, subst, _∙_}
 use lib.Dec.{lit<, lit≤}
 use lib.ListN.{length, take, drop}
+use Rattle.wire.specs.Buffers.{shown}
 use Rattle.wire.specs.Parts.{joined}
 use Rattle.wire.proofs.Bytes.{Below}
 use Rattle.page.specs.Check.{checked}
@@ -25,7 +26,7 @@ use Rattle.device_16.specs.Model.{state, device}
 use Rattle.device_16.specs.declared.Device.{Device}
 use Rattle.drive_16.specs.Outcomes.{outcomeBy, outcome, poweredOn, writeOutcomeBy, writeOutcome}
 use Rattle.recording.specs.Entries.{calls}
-use Rattle.recording.specs.Files.{header, soundFile, fileVerdict, eventBytes, callsOf, fileOf}
+use Rattle.recording.specs.Files.{header, soundFile, fileVerdict, eventBytes, pageBytes, callsOf, fileOf}
 use Rattle.session.specs.Answers.{fourOf, answersFrom, answerBytes}
 use Rattle.session.proofs.Replayed.{file-taken}
 use Rattle.session_16.specs.Sessions.{start, Gives}
@@ -43,6 +44,9 @@ use Rattle.why.specs.declared.Reason.{Reason}
 use Rattle.why.specs.Reasons.{why}
 use Rattle.why.specs.Truths.{TrueReason}
 use Rattle.why.proofs.Truth.{why-true}
+use Rattle.salvage.specs.Salvage.{keptEvents, salvaged}
+use Rattle.salvage.specs.Saved.{Salvageable}
+use Rattle.salvage.proofs.Replayed.{kept-replayed}
 use Rattle.promises_16.specs.Runs.{leaves, tells, sincePowerOn}
 -- What this model writes as a record's bytes is loaded as the same record; bytes that are loaded, written again, are the same bytes; a
 -- load takes bytes exactly if their count is right and each yes/no byte is 0 or 1; a refused one carries nothing.
@@ -135,3 +139,19 @@ pub tried-here : (file : List ℕ) → Below file → soundFile file ≡ true �
 unfolding writeOutcomeBy
 tried-here file bytes sound events h n supported e =
     why-here file bytes sound events h n supported e .answered ∙ ap (λ (s : State). answer s (write n supported)) (sym (runs-so (take events (callsOf file))))
+
+-- The new file of a recording that can be salvaged, replayed as it is promised: the device that the kept events leave, each sent as a call by
+-- itself since power-on, and their answers.
+pub record KeptSent (file buffer : List ℕ) (r : Ran) (after : List ℕ) : Type 0 where
+  pub left : r .device ≡ sincePowerOn (calls (keptEvents file) (pageBytes file))
+  pub told : after ≡ shown (tells (poweredOn .device) (calls (keptEvents file) (pageBytes file))) buffer
+
+pub salvaged-here : (file buffer : List ℕ) {r : Ran} {after : List ℕ} → Salvageable file
+    → Gives (fileVerdict (salvaged file)) start (callsOf (salvaged file)) buffer r after → KeptSent file buffer r after
+salvaged-here file buffer w g =
+    let kept = calls (keptEvents file) (pageBytes file) in
+    let k = kept-replayed file w start buffer in
+    record {
+      left = ap (λ (x : Ran). x .device) (g .ran) ∙ ap device (k .left ∙ sym (runs-so kept));
+      told = g .told ∙ k .told ∙ ap (λ (l : List ℕ). shown l buffer) (sym (tells-answers (poweredOn .device) kept));
+    }

@@ -1,21 +1,22 @@
 -- What the code makes of a file, by whether it can be salvaged.
 -- Assumes nothing.
 use Prim.Native.Nat.{ℕ, _+_, _*_, _-_, _/_, _≤_, _<_}
-use mathlib.Core.Path.{_≡_, sym, ap, _∙_}
+use mathlib.Core.Path.{_≡_, refl, sym, ap, ap₂, _∙_}
 use mathlib.Core.Bool.{true, false}
 use mathlib.Core.List.{List, _++_}
 use native.Mathlib.Omega.{arith}
-use lib.ListN.{length}
-use lib.Seq.{length-take-le}
+use lib.ListN.{length, take, drop}
+use lib.Seq.{length-take-le, take-all, take-at}
 use Rattle.arrays.proofs.Base.{if-true, if-false}
 use Rattle.wire.specs.Buffers.{shown}
 use Rattle.recording.specs.declared.Header.{Header}
 use Rattle.recording.specs.declared.Verdict.the-variants.{Done, NotSalvageable}
 use Rattle.recording.specs.Files.{header, rightHeader, eventBytes, pageBytes, headerBytes}
+use Rattle.salvage.specs.declared.Salvaged.{Salvaged}
 use Rattle.salvage.specs.Salvage.{keptCount, keptEvents, salvaged, isSalvageable, noHeader, Saves}
 use Rattle.salvage.specs.Saved.{Salvageable}
-use Rattle.salvage.proofs.Due.{salvageable-told}
-use Rattle.salvage.proofs.Saved.{first-within, first-small, kept-few, new-header}
+use Rattle.salvage.proofs.Due.{salvageable-told, told-salvageable}
+use Rattle.salvage.proofs.Saved.{first-within, first-small, kept-few, new-header, saved}
 
 -- 21 is reported, and nothing is written
 pub saves-nothing : (file buffer : List ℕ) → isSalvageable file ≡ false → Saves file buffer (record { verdict = NotSalvageable; old = noHeader; new = noHeader; dropped = 0 }) buffer
@@ -53,3 +54,14 @@ module _ (file : List ℕ) (good : isSalvageable file ≡ true) where
         ∙ sym (if-true (isSalvageable file) _ _ good);
     writes = ap (λ (l : List ℕ). shown l buffer) parts-written ∙ sym (if-true (isSalvageable file) _ _ good);
   }
+
+-- A buffer of 65,535 bytes has room for every new file: its first bytes, as many as the new total tells, are the new file.
+pub written-whole : (file buffer : List ℕ) {r : Salvaged} {after : List ℕ} → Saves file buffer r after → Salvageable file → 65535 ≤ length buffer → take (r .new .total) after ≡ salvaged file
+written-whole file buffer {r} {after} s w room =
+    let good = told-salvageable file w in
+    let new = saved file w in
+    let total : r .new .total ≡ length (salvaged file) = ap (λ (x : Salvaged). x .new .total) (s .reports ∙ if-true (isSalvageable file) _ _ good) ∙ new .sized in
+    let fits : take (length buffer) (salvaged file) ≡ salvaged file = take-all (length buffer) (salvaged file) (omega (arith, new .fits, new .sized, room)) in
+    ap₂ (λ (n : ℕ) (l : List ℕ). take n l) total (s .writes ∙ if-true (isSalvageable file) _ _ good)
+    ∙ ap (λ (l : List ℕ). take (length (salvaged file)) (l ++ drop (length (salvaged file)) buffer)) fits
+    ∙ take-at (salvaged file) (drop (length (salvaged file)) buffer) (length (salvaged file)) refl

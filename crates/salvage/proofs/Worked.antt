@@ -65,8 +65,8 @@ table =
     ∷ salvages (under 65535 65535 16 65535 demount) (under 1 8 16 16 demount) "events 65535 -> 1\nfirst event 65535 -> 8\npage bytes 16 -> 16\ntotal 65535 -> 16\ndropped 0\n"
     -- "cut tails": a byte of the third event's page is gone, so it is dropped, and so is the sound one after it; the cut page's rest stays
     ∷ salvages (under 4 8 40 44 (out 0 2 ++ demount ++ out 2 2 ++ demount ++ two-bytes ++ 0xCC ∷ []))
-        (under 2 8 24 27 (out 0 2 ++ demount ++ two-bytes ++ 0xCC ∷ []))
-        "events 4 -> 2\nfirst event 8 -> 8\npage bytes 40 -> 24\ntotal 44 -> 27\ndropped 2\n"
+    (under 2 8 24 27 (out 0 2 ++ demount ++ two-bytes ++ 0xCC ∷ []))
+    "events 4 -> 2\nfirst event 8 -> 8\npage bytes 40 -> 24\ntotal 44 -> 27\ndropped 2\n"
     -- all page bytes are gone, and the first event's page is empty
     ∷ salvages (under 2 8 24 28 (out 0 0 ++ out 0 4)) (under 1 8 16 16 (out 0 0)) "events 2 -> 1\nfirst event 8 -> 8\npage bytes 24 -> 16\ntotal 28 -> 16\ndropped 1\n"
     -- a page that ends with the page bytes, and one that ends a byte past them
@@ -82,7 +82,7 @@ table =
     -- "A sound file comes out byte for byte the same": with page bytes that no event uses, and with pages that overlap
     ∷ salvages (fileOf demount two-bytes) (fileOf demount two-bytes) "events 1 -> 1\nfirst event 8 -> 8\npage bytes 16 -> 16\ntotal 18 -> 18\ndropped 0\n"
     ∷ salvages (fileOf (out 0 1 ++ out 0 2 ++ out 1 0) (0xAA ∷ 0xBB ∷ 0xCC ∷ [])) (fileOf (out 0 1 ++ out 0 2 ++ out 1 0) (0xAA ∷ 0xBB ∷ 0xCC ∷ []))
-        "events 3 -> 3\nfirst event 8 -> 8\npage bytes 32 -> 32\ntotal 35 -> 35\ndropped 0\n"
+    "events 3 -> 3\nfirst event 8 -> 8\npage bytes 32 -> 32\ntotal 35 -> 35\ndropped 0\n"
     -- "Other numbers are left to the calls": a nexus above 15, a place above 4
     ∷ salvages (fileOf (event 3 16 1 0 0 ++ event 10 0 5 0 0) []) (fileOf (event 3 16 1 0 0 ++ event 10 0 5 0 0) []) "events 2 -> 2\nfirst event 8 -> 8\npage bytes 24 -> 24\ntotal 24 -> 24\ndropped 0\n"
     -- a buffer too short

@@ -15,10 +15,10 @@ change name old new = name ∷ decimal old ∷ bytesOf " -> " ∷ decimal new �
 unfoldable pub reportParts : Salvaged → List (List ℕ)
 reportParts s =
     change (bytesOf "events ") (s .old .eventCount) (s .new .eventCount)
-    ++ (change (bytesOf "first event ") (s .old .firstEvent) (s .new .firstEvent)
-    ++ (change (bytesOf "page bytes ") (s .old .pagesFrom) (s .new .pagesFrom)
-    ++ (change (bytesOf "total ") (s .old .total) (s .new .total)
-    ++ (bytesOf "dropped " ∷ decimal (s .dropped) ∷ bytesOf "\n" ∷ []))))
+    ++ change (bytesOf "first event ") (s .old .firstEvent) (s .new .firstEvent)
+    ++ change (bytesOf "page bytes ") (s .old .pagesFrom) (s .new .pagesFrom)
+    ++ change (bytesOf "total ") (s .old .total) (s .new .total)
+    ++ bytesOf "dropped " ∷ decimal (s .dropped) ∷ bytesOf "\n" ∷ []
 
 -- and as they are printed
 unfoldable pub reportText : Salvaged → List ℕ

@@ -41,10 +41,11 @@ isSalvageable file =
     leb headerSize (length file) && leb (length file) fileMost && leb headerSize from && eqb ((from - headerSize) % entrySize) 0
     && leb from (length file)
 
--- "Report the old and new values of each header number and how many whole events .. were dropped"; else "say 21"
+-- where there is nothing to report
 abbrev pub noHeader : Header
 noHeader = record { eventCount = 0; firstEvent = 0; pagesFrom = 0; total = 0 }
 
+-- "Report the old and new values of each header number and how many whole events .. were dropped"; else "say 21"
 abbrev pub reported : (file : List ℕ) → Salvaged
 reported file =
     if isSalvageable file

@@ -6,7 +6,7 @@ use mathlib.Core.Path.{_≡_, refl, sym, ap, ap₂, subst, subst₂, _∙_}
 use mathlib.Core.Bool.{Bool, true, false, not, _&&_, and-assoc}
 use mathlib.Core.List.{List, [], _∷_, _++_, append-assoc}
 use native.Mathlib.Omega.{arith}
-use borrow.Author.Tests.{leb-false, eq-eqb, not-true}
+use borrow.Author.Tests.{leb-false, eq-eqb, not-true, eqb-true}
 use lib.Dec.{eqb, leb}
 use lib.ListN.{length, drop, length-append, length-drop}
 use lib.Seq.{getD-at, drop-drop}
