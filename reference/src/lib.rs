@@ -1,7 +1,7 @@
-//! A second, independent account of document 01, and of requests 1 to 3, 5, 8 and 11 of document 02: the encryption
-//! controller of a tape drive, batches of events, the replay of recorded sessions, the reasons of their writes and their
-//! claim, and the programs that compare them with others on a pipe. Host tools beside it: recordings as text, and the page
-//! of a claim.
+//! A second, independent account of document 01, and of requests 1 to 3, 5, 8, 11 and 12 of document 02: the encryption
+//! controller of a tape drive, batches of events, the replay of recorded sessions, the reasons of their writes, their
+//! claim and the salvage of damaged ones, and the programs that compare them with others on a pipe. Host tools beside it:
+//! recordings as text, and the page of a claim.
 
 #![forbid(unsafe_code)]
 
@@ -24,6 +24,7 @@ pub mod record_bytes;
 pub mod recording;
 pub mod report;
 pub mod response_pages;
+pub mod salvage;
 pub mod script;
 pub mod set_page;
 pub mod sizes;

@@ -196,8 +196,9 @@ pub use Rattle.salvage.proofs.Due.{salvage-due}
 pub use Rattle.salvage.proofs.Saved.{saved}
 -- A buffer of 65,535 bytes has room for every new file.
 pub use Rattle.salvage.proofs.Saving.{written-whole}
--- A sound file comes out byte for byte the same, with nothing reported changed; salvaging twice is salvaging once.
-pub use Rattle.salvage.proofs.Same.{sound-unchanged, salvaged-twice}
+-- A sound file comes out byte for byte the same, with nothing reported changed, and where nothing is reported changed the file was sound;
+-- salvaging twice is salvaging once.
+pub use Rattle.salvage.proofs.Same.{sound-unchanged, unchanged-was-sound, salvaged-twice}
 -- Replaying the new file gives the answers that the kept events give, and the record that they leave.
 pub use Rattle.salvage.proofs.Replayed.{kept-replayed}
 -- Files salvaged by computing: the verdict, each byte of the buffer, and the report to the character.

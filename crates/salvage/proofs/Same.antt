@@ -1,25 +1,31 @@
 -- A sound file comes out byte for byte the same, with nothing reported changed; so does what was salvaged, salvaged again.
 -- Assumes nothing.
-use Prim.Native.Nat.{ℕ, _*_, _/_, _≤_}
-use mathlib.Core.Path.{_≡_, ap, ap₂, _∙_}
+use Prim.Native.Nat.{ℕ, _+_, _*_, _/_, _≤_}
+use mathlib.Core.Path.{_≡_, sym, ap, ap₂, subst₂, _∙_}
 use mathlib.Core.Bool.{true}
 use mathlib.Core.List.{List}
 use native.Mathlib.Omega.{arith}
 use lib.ListN.{length}
 use lib.Seq.{take-all}
 use borrow.Author.Tests.{eqb-true}
-use Rattle.arrays.proofs.Base.{if-true}
+use Rattle.arrays.proofs.Base.{cases, if-true, if-false}
+use Rattle.wire.specs.Parts.{Each}
 use Rattle.wire.proofs.Bytes.{Below}
+use Rattle.recording.specs.declared.Header.{Header}
 use Rattle.recording.specs.declared.Verdict.the-variants.{Done}
+use Rattle.recording.specs.Verdicts.{verdictNumber}
 use Rattle.recording.specs.Entries.{entries, soundRun}
-use Rattle.recording.specs.Files.{header, eventBytes, pageBytes, soundFile, fileOf}
+use Rattle.recording.specs.Files.{header, rightHeader, eventBytes, pageBytes, soundFile, fileOf}
+use Rattle.recording.specs.Soundness.{SoundEvent}
 use Rattle.recording.proofs.Entries.{run-told}
-use Rattle.recording.proofs.Files.{sound-header, sound-events, length-events}
+use Rattle.recording.proofs.Exactly.{taken-is-sound, sound-is-taken}
+use Rattle.recording.proofs.Files.{sound-header, sound-events, length-events, length-pages}
 use Rattle.recording.proofs.Made.{made-again}
-use Rattle.salvage.specs.Salvage.{keptCount, keptEvents, salvaged, droppedCount, isSalvageable}
+use Rattle.salvage.specs.declared.Salvaged.{Salvaged}
+use Rattle.salvage.specs.Salvage.{keptCount, keptEvents, salvaged, droppedCount, isSalvageable, reported}
 use Rattle.salvage.specs.Saved.{Salvageable, Unchanged}
-use Rattle.salvage.proofs.Due.{told-salvageable}
-use Rattle.salvage.proofs.Saved.{new-events, new-pages, saved}
+use Rattle.salvage.proofs.Due.{salvageable-told, told-salvageable}
+use Rattle.salvage.proofs.Saved.{length-before, new-header, new-events, new-pages, saved}
 
 -- a sound file of at most 65,535 bytes can be salvaged, and all its events are kept
 module _ (file : List ℕ) (small : length file ≤ 65535) (sound : soundFile file ≡ true) where
@@ -60,3 +66,45 @@ salvaged-twice file w =
     let s = saved file w in
     parts-unchanged (salvaged file) (omega (arith, s .shrinks, w .small)) (s .taken)
     (ap₂ (λ (events pages : List ℕ). fileOf events pages) (new-events file w) (new-pages file w))
+
+-- Where nothing is reported changed, the file was sound.
+module _ (file : List ℕ) (same : reported file ≡ record { verdict = Done; old = header file; new = header file; dropped = 0 }) where
+  -- it can be salvaged, since 21 isn't reported
+  could : isSalvageable file ≡ true
+  could =
+      cases (isSalvageable file) (λ t. t)
+      (λ f.
+      let e = ap (λ (r : Salvaged). verdictNumber (r .verdict)) (sym (if-false (isSalvageable file) _ _ f) ∙ same) in
+      absurd (omega (arith, e)))
+
+  w : Salvageable file
+  w = salvageable-told file could
+
+  told : _≡_ {A = Salvaged} (record { verdict = Done; old = header file; new = header (salvaged file); dropped = droppedCount file }) (record { verdict = Done; old = header file; new = header file; dropped = 0 })
+  told = sym (if-true (isSalvageable file) _ _ could) ∙ same
+
+  -- its header is the new one's, and right
+  header-new : header file ≡ rightHeader (keptCount file) (length (pageBytes file))
+  header-new = sym (ap (λ (r : Salvaged). r .new) told) ∙ new-header file w
+
+  -- none is dropped
+  none-dropped : keptCount file ≡ w .events
+  none-dropped = omega (arith, saved file w .counted, ap (λ (r : Salvaged). r .dropped) told)
+
+  same-events : keptEvents file ≡ eventBytes file
+  same-events = take-all (8 * keptCount file) (eventBytes file) (omega (arith, none-dropped, length-before file w))
+
+  pub unchanged-was-sound : soundFile file ≡ true
+  unchanged-was-sound =
+      let new = taken-is-sound (salvaged file) (saved file w .taken) in
+      let total : header file .total ≡ 8 + 8 * keptCount file + length (pageBytes file) = ap (λ (h : Header). h .total) header-new in
+      let count : header file .eventCount ≡ keptCount file = ap (λ (h : Header). h .eventCount) header-new in
+      sound-is-taken file (record {
+        headed = record {
+          whole = omega (arith, total, none-dropped, length-pages file, w .counted, w .within);
+          begins = ap (λ (h : Header). h .firstEvent) header-new;
+          counted = omega (arith, count, none-dropped, w .counted);
+          within = w .within;
+        };
+        events = subst₂ (λ (events pages : List ℕ). Each (SoundEvent (length pages)) (entries events)) (new-events file w ∙ same-events) (new-pages file w) (new .events);
+      })

@@ -19,15 +19,15 @@ use Rattle.salvage.specs.Salvage.{keptCount, keptEvents, salvaged, dropp
 use Rattle.salvage.specs.Saved.{Salvageable, Saved}
 
 module _ (file : List ℕ) (w : Salvageable file) where
-  length-events : length (eventBytes file) ≡ 8 * w .events
-  length-events =
+  pub length-before : length (eventBytes file) ≡ 8 * w .events
+  length-before =
       let from = header file .pagesFrom in
       let l = length-take-le (from - 8) (drop 8 file) (omega (arith, length-drop 8 file, w .counted, w .within)) in
       omega (arith, l, w .counted)
 
   -- the whole events before the stored page offset
   length-whole : length (entries (eventBytes file)) ≡ w .events
-  length-whole = omega (arith, length-entries (eventBytes file), length-events)
+  length-whole = omega (arith, length-entries (eventBytes file), length-before)
 
   -- the first n of them
   first-events : (n : ℕ) → n ≤ w .events → take (8 * n) (eventBytes file) ≡ take (8 * n) (drop 8 file)
@@ -39,7 +39,7 @@ module _ (file : List ℕ) (w : Salvageable file) where
 
   -- n events fit, with the page bytes, in 65,535 bytes
   pub first-within : (n : ℕ) → n ≤ w .events → 8 * n ≤ length (eventBytes file)
-  first-within n h = omega (arith, h, length-events)
+  first-within n h = omega (arith, h, length-before)
 
   pub first-small : (n : ℕ) → n ≤ w .events → 8 + 8 * n + length (pageBytes file) < 65536
   first-small n h = omega (arith, h, length-pages file, w .small, w .counted, w .within)
@@ -82,11 +82,11 @@ module _ (file : List ℕ) (w : Salvageable file) where
   none-longer n h s = run-longest (length (pageBytes file)) n (entries (eventBytes file)) (omega (arith, h, length-whole)) (sym (first-taken n h) ∙ s)
 
   all-counted : keptCount file + droppedCount file ≡ w .events
-  all-counted = omega (arith, kept-few, length-events)
+  all-counted = omega (arith, kept-few, length-before)
 
   first-dropped : (none : Entry) → 0 < droppedCount file → sound (length (pageBytes file)) (getD (entries (eventBytes file)) (keptCount file) none) ≡ false
   unfolding keptCount
-  first-dropped none h = run-breaks (length (pageBytes file)) (entries (eventBytes file)) none (omega (arith, h, length-whole, length-events))
+  first-dropped none h = run-breaks (length (pageBytes file)) (entries (eventBytes file)) none (omega (arith, h, length-whole, length-before))
 
   pub saved : Saved file w
   saved = record {

@@ -15,6 +15,7 @@ pub mod reasons;
 pub mod record_builder;
 pub mod recordings;
 mod report;
+pub mod salvages;
 pub mod session;
 mod shrink;
 mod wire;

@@ -1,4 +1,4 @@
-//! Tests of the reference against document 01, and requests 1 to 3, 5, 8 and 11 of document 02.
+//! Tests of the reference against document 01, and requests 1 to 3, 5, 8, 11 and 12 of document 02.
 
 #![forbid(unsafe_code)]
 
@@ -16,6 +16,8 @@ mod record_bytes;
 mod recording;
 mod replay;
 mod response_pages;
+mod salvage;
+mod salvage_runs;
 mod sent;
 mod status_page;
 mod stream;

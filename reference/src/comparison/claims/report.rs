@@ -2,7 +2,7 @@
 
 use super::case::Case;
 use super::claimer::Difference;
-use crate::comparison::recordings::report::{recording_text, results_text};
+use crate::comparison::recordings::report::{lines_text, recording_text, results_text};
 use crate::comparison::recordings::shrink::Short;
 
 /// The whole report of a difference.
@@ -10,13 +10,4 @@ pub fn difference_text(case: &Case, short: &Short<Difference>) -> String {
     let Short { file, difference: Difference { wanted, outcome } } = short;
     let title = format!("the claims at the rate {:?} differ", case.rate);
     recording_text(&case.recording, file) + &results_text(&title, file, (wanted, outcome), lines_text)
-}
-
-/// A claim's lines, each as a program would have to write it.
-fn lines_text(bytes: &[u8]) -> String {
-    let mut text = format!("{} bytes on standard output\n", bytes.len());
-    for line in bytes.split_inclusive(|&byte| byte == b'\n') {
-        text += &format!("        {:?}\n", String::from_utf8_lossy(line));
-    }
-    text
 }

@@ -155,26 +155,39 @@ pub fn overlapping_pages() -> (Vec<Event>, Vec<u8>) {
 
 /// A recording's file with this rule broken and no other; a rule of events by one at its end.
 pub fn breaking(rule: FileRule, sound: &Recording) -> Vec<u8> {
-    let demount = Event { kind: kind::DEMOUNT, ..Event::default() };
-    let write = Event { kind: kind::WRITE, nexus: 3, argument: 1, ..Event::default() };
+    match rule {
+        FileRule::Under8Bytes => sound.bytes()[..7].to_vec(),
+        FileRule::Total => with_header(sound, |header| header.total -= 1),
+        FileRule::FirstEvent => with_header(sound, |header| header.first_event += 8),
+        FileRule::PageBytesStart => with_header(sound, |header| header.page_bytes += 8),
+        FileRule::EventsPastEnd => with_header(sound, |header| {
+            header.event_count = MOST_EVENTS as u16;
+            header.page_bytes = events_end(MOST_EVENTS) as u16;
+        }),
+        _ => file_of([&sound.events[..], &[wrong_event(rule)]].concat(), sound.page_bytes.clone()),
+    }
+}
+
+/// An event that breaks this rule of events and no other.
+pub fn wrong_event(rule: FileRule) -> Event {
     let event = match rule {
-        FileRule::Under8Bytes => return sound.bytes()[..7].to_vec(),
-        FileRule::Total => return with_header(sound, |header| header.total -= 1),
-        FileRule::FirstEvent => return with_header(sound, |header| header.first_event += 8),
-        FileRule::PageBytesStart => return with_header(sound, |header| header.page_bytes += 8),
-        FileRule::EventsPastEnd => {
-            return with_header(sound, |header| {
-                header.event_count = MOST_EVENTS as u16;
-                header.page_bytes = events_end(MOST_EVENTS) as u16;
-            })
-        }
-        FileRule::Kind => Event { kind: 12, ..write },
-        FileRule::SupportFlag => Event { argument: 2, ..write },
-        FileRule::UnusedNexus => Event { nexus: 3, ..demount },
-        FileRule::UnusedArgument => Event { argument: 1, ..demount },
-        FileRule::UnusedPageOffset => Event { page_offset: 1, ..write },
-        FileRule::UnusedPageLength => Event { page_length: 1, ..write },
-        FileRule::PagePastEnd => Event { kind: kind::OUT, argument: 0x0010, page_length: u16::MAX, ..write },
+        FileRule::UnusedNexus | FileRule::UnusedArgument => requests().events[0],
+        FileRule::PagePastEnd => out(3, 0, 0),
+        _ => supported_write(3),
     };
-    file_of([&sound.events[..], &[event]].concat(), sound.page_bytes.clone())
+    made_wrong(event, rule)
+}
+
+/// An event that breaks this rule of events besides, if its kind can.
+pub fn made_wrong(event: Event, rule: FileRule) -> Event {
+    match rule {
+        FileRule::Kind => Event { kind: 12, ..event },
+        FileRule::SupportFlag => Event { argument: 2, ..event },
+        FileRule::UnusedNexus => Event { nexus: 3, ..event },
+        FileRule::UnusedArgument => Event { argument: 1, ..event },
+        FileRule::UnusedPageOffset => Event { page_offset: 1, ..event },
+        FileRule::UnusedPageLength => Event { page_length: 1, ..event },
+        FileRule::PagePastEnd => Event { page_length: u16::MAX, ..event },
+        _ => unreachable!("the others are rules of the file"),
+    }
 }

@@ -46,6 +46,15 @@ pub enum Group {
     ReasonSessions,
     ReasonLimits,
     ReasonWrongFiles,
+    SalvageLengths,
+    SalvageOffsets,
+    SalvageHeaders,
+    SalvageTails,
+    SalvageEvents,
+    SalvagePages,
+    SalvageSpareBytes,
+    SalvageRuns,
+    SalvageLargest,
     RandomSound,
     RandomHeader,
     RandomEvent,
@@ -54,6 +63,13 @@ pub enum Group {
     RandomLengthened,
     RandomBit,
     RandomEventMoved,
+    RandomOverwritten,
+    RandomOffByOne,
+    RandomPageOffset,
+    RandomTail,
+    RandomBytes,
+    RandomWrongEvents,
+    RandomGrown,
 }
 
 impl Group {
@@ -118,6 +134,26 @@ impl Group {
         (Group::ReasonWrongFiles, 12),
     ];
 
+    /// The groups that the salvage's comparison has besides.
+    pub const OF_SALVAGES: [(Group, usize); 16] = [
+        (Group::SalvageLengths, 119),
+        (Group::SalvageOffsets, 265),
+        (Group::SalvageHeaders, 170),
+        (Group::SalvageTails, 229),
+        (Group::SalvageEvents, 271),
+        (Group::SalvagePages, 187),
+        (Group::SalvageSpareBytes, 90),
+        (Group::SalvageRuns, 176),
+        (Group::SalvageLargest, 55),
+        (Group::RandomOverwritten, 4),
+        (Group::RandomOffByOne, 2),
+        (Group::RandomPageOffset, 3),
+        (Group::RandomTail, 3),
+        (Group::RandomBytes, 1),
+        (Group::RandomWrongEvents, 2),
+        (Group::RandomGrown, 2),
+    ];
+
     /// The groups of random recordings, with the ways of each to damage them.
     pub fn of_random() -> impl Iterator<Item = (Group, usize)> {
         Group::EVERY.into_iter().filter(|(group, _)| group.is_random())
@@ -161,7 +197,7 @@ impl fmt::Display for Group {
 }
 
 impl Group {
-    /// The name of one of the claim's groups, of the reasons' or of the random ones.
+    /// The name of one of the claim's groups, of the reasons', of the salvage's or of the random ones.
     fn beside_replay(self) -> &'static str {
         match self {
             Group::ClaimRows => "writes by row and column",
@@ -182,6 +218,15 @@ impl Group {
             Group::ReasonSessions => "the claim's sessions",
             Group::ReasonLimits => "numbers of events and nexuses",
             Group::ReasonWrongFiles => "reasons of wrong files",
+            Group::SalvageLengths => "lengths at the limits",
+            Group::SalvageOffsets => "stored page offsets",
+            Group::SalvageHeaders => "header numbers that lie",
+            Group::SalvageTails => "tails cut, overwritten or grown",
+            Group::SalvageEvents => "a wrong event by kind, rule and position",
+            Group::SalvagePages => "pages at the end of the page bytes",
+            Group::SalvageSpareBytes => "page bytes that no kept event uses",
+            Group::SalvageRuns => "runs of events",
+            Group::SalvageLargest => "the most events and page bytes",
             Group::RandomSound => "random, sound",
             Group::RandomHeader => "random, a header number changed",
             Group::RandomEvent => "random, a field of an event changed",
@@ -190,6 +235,13 @@ impl Group {
             Group::RandomLengthened => "random, lengthened",
             Group::RandomBit => "random, bits flipped",
             Group::RandomEventMoved => "random, an event dropped, doubled or swapped",
+            Group::RandomOverwritten => "random, the header overwritten",
+            Group::RandomOffByOne => "random, header numbers off by one",
+            Group::RandomPageOffset => "random, the stored page offset moved",
+            Group::RandomTail => "random, the tail lost",
+            Group::RandomBytes => "random, bytes changed",
+            Group::RandomWrongEvents => "random, events made wrong",
+            Group::RandomGrown => "random, grown",
             _ => unreachable!("the others are named above"),
         }
     }

@@ -20,7 +20,7 @@ pub struct RandomRecordings {
 type Enrich = fn(Vec<Command>, &mut Numbers) -> Vec<Command>;
 
 /// A way to damage a file; what comes out may be sound.
-type Damage = (Group, &'static str, fn(&mut Vec<u8>, &mut Numbers));
+pub type Damage = (Group, &'static str, fn(&mut Vec<u8>, &mut Numbers));
 
 const DAMAGES: [Damage; 15] = [
     (Group::RandomHeader, "event count", |file, numbers| in_header(file, numbers, 0)),
@@ -141,17 +141,27 @@ pub fn small_or_any(numbers: &mut Numbers) -> u16 {
     }
 }
 
-/// Changes one of the header's four numbers.
+/// Changes one of the header's four numbers at random.
 fn in_header(file: &mut [u8], numbers: &mut Numbers, number: usize) {
+    change_number(file, number, |right| {
+        let off = numbers.pick(&[1, -1, 2, 7, 8, -8, 16, 256]);
+        if numbers.percent(70) {
+            right.wrapping_add_signed(off)
+        } else {
+            small_or_any(numbers)
+        }
+    });
+}
+
+/// Changes one of the header's four numbers.
+pub fn change_number(file: &mut [u8], number: usize, change: impl FnOnce(u16) -> u16) {
     let bytes = &mut file[2 * number..2 * number + 2];
-    let right = u16::from_be_bytes([bytes[0], bytes[1]]);
-    let off = numbers.pick(&[1, -1, 2, 7, 8, -8, 16, 256]);
-    let new = if numbers.percent(70) { right.wrapping_add_signed(off) } else { small_or_any(numbers) };
+    let new = change(u16::from_be_bytes([bytes[0], bytes[1]]));
     bytes.copy_from_slice(&new.to_be_bytes());
 }
 
 /// Changes one of the file's events.
-fn in_event(file: &mut [u8], numbers: &mut Numbers, change: impl Fn(&mut Event)) {
+pub fn in_event(file: &mut [u8], numbers: &mut Numbers, change: impl Fn(&mut Event)) {
     let count = Header::read(file).map_or(0, |header| usize::from(header.event_count));
     let at = events_end(numbers.below(count.max(1)));
     let Some(bytes) = file.get_mut(at..at + EVENT_BYTES) else { return };

@@ -32,40 +32,57 @@ pub fn difference_text(case: &Case, short: &Short<Difference>) -> String {
 
 /// The short recording of a difference in hex and in words.
 pub fn recording_text(case: &Case, file: &[u8]) -> String {
-    let mut text =
-        format!("DIFFERENCE in \"{}: {}\"; short recording of {} bytes", case.group, case.name, file.len());
     let events = Header::read(file).and_then(|header| parts(&header, file));
-    if let Some((events, _)) = &events {
-        let _ = write!(text, " and {} events", events.len());
+    hex_text(case, file, events.map(|(events, _)| events.len())) + &file_text(file)
+}
+
+/// The short recording of a difference in hex, with the number of its events, if they can be counted.
+pub fn hex_text(case: &Case, file: &[u8], events: Option<usize>) -> String {
+    let Case { group, name, .. } = case;
+    let mut text = format!("DIFFERENCE in \"{group}: {name}\"; short recording of {} bytes", file.len());
+    if let Some(events) = events {
+        let _ = write!(text, " and {events} events");
     }
-    let _ = write!(text, ":\n{}", rows(&file[..file.len().min(MOST_BYTES)]));
-    text + &file_text(file)
+    text + ":\n" + &rows(&file[..file.len().min(MOST_BYTES)])
 }
 
 /// A file in words: the header, the events with the reference's answers, the rules that are broken.
 fn file_text(file: &[u8]) -> String {
     let Some(header) = Header::read(file) else { return "  no header\n".to_string() };
-    let mut text = format!(
-        "  event count {}, first event at {}, page bytes at {}, total {}\n",
-        header.event_count, header.first_event, header.page_bytes, header.total
-    );
+    let mut text = header_text(&header);
     let Some((events, page_bytes)) = parts(&header, file) else {
         text.push_str("  the file ends before its events do\n");
         return text;
     };
     let answers = replay(file).answers;
     let mut answers = answers.chunks(ANSWER_BYTES);
+    text += &events_text(&events, |_| {
+        let answer = answers.next();
+        answer.map_or(String::new(), |it| format!("the reference answers {} ({})", it[0], when(it[0])))
+    });
+    let _ = writeln!(text, "  {} page bytes", page_bytes.len());
+    text
+}
+
+/// A header in words.
+pub fn header_text(header: &Header) -> String {
+    format!(
+        "  event count {}, first event at {}, page bytes at {}, total {}\n",
+        header.event_count, header.first_event, header.page_bytes, header.total
+    )
+}
+
+/// A line for each event, with a remark about it, if there is one.
+pub fn events_text(events: &[Event], mut remark: impl FnMut(usize) -> String) -> String {
+    let mut text = String::new();
     for (number, event) in events.iter().enumerate().take(MOST_EVENTS) {
-        let _ = write!(text, "  {number}. {}", event_text(event));
-        if let Some(answer) = answers.next() {
-            let _ = write!(text, "; the reference answers {} ({})", answer[0], when(answer[0]));
-        }
-        text.push('\n');
+        let remark = Some(remark(number)).filter(|remark| !remark.is_empty());
+        let remark = remark.map_or(String::new(), |remark| format!("; {remark}"));
+        let _ = writeln!(text, "  {number}. {}{remark}", event_text(event));
     }
     if events.len() > MOST_EVENTS {
         let _ = writeln!(text, "  and {} events more", events.len() - MOST_EVENTS);
     }
-    let _ = writeln!(text, "  {} page bytes", page_bytes.len());
     text
 }
 
@@ -127,8 +144,17 @@ fn outcome_text(outcome: &Outcome, tell: fn(&[u8]) -> String) -> String {
     }
 }
 
-/// Answers or a record.
-fn bytes_text(bytes: &[u8]) -> String {
+/// Lines, each as a program would have to write it.
+pub fn lines_text(bytes: &[u8]) -> String {
+    let mut text = format!("{} bytes on standard output\n", bytes.len());
+    for line in bytes.split_inclusive(|&byte| byte == b'\n') {
+        text += &format!("        {:?}\n", String::from_utf8_lossy(line));
+    }
+    text
+}
+
+/// Answers, a record or a file.
+pub fn bytes_text(bytes: &[u8]) -> String {
     format!("{} bytes on standard output\n{}", bytes.len(), rows(&bytes[..bytes.len().min(MOST_BYTES)]))
 }
 
