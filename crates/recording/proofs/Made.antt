@@ -126,7 +126,7 @@ module _ (file : List ℕ) (bytes : Below file) (sound : soundFile file ≡ true
   head = sound-header file sound
 
   -- its header is the right one
-  pub header-right : rightHeader (header file .eventCount) (length (pageBytes file)) ≡ header file
+  header-right : rightHeader (header file .eventCount) (length (pageBytes file)) ≡ header file
   header-right =
       let p : 8 + 8 * header file .eventCount ≡ header file .pagesFrom = sym (head .counted) in
       let t : 8 + 8 * header file .eventCount + length (pageBytes file) ≡ header file .total = omega (arith, p, length-pages file, head .within, head .whole) in

@@ -15,6 +15,15 @@ pub struct Header {
     pub total: usize,
 }
 
+impl Header {
+    pub const NONE: Header = Header {
+        eventCount: 0,
+        firstEvent: 0,
+        pagesFrom: 0,
+        total: 0,
+    };
+}
+
 // An event. Its page is pageLength bytes at an offset of the page bytes.
 pub struct Entry {
     pub kind: u8,

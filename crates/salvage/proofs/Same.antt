@@ -29,7 +29,7 @@ use Rattle.salvage.proofs.Saved.{length-before, new-header, new-events,
 
 -- a sound file of at most 65,535 bytes can be salvaged, and all its events are kept
 module _ (file : List ℕ) (small : length file ≤ 65535) (sound : soundFile file ≡ true) where
-  pub sound-salvageable : Salvageable file
+  sound-salvageable : Salvageable file
   sound-salvageable = let head = sound-header file sound in record { small = small; events = header file .eventCount; counted = head .counted; within = head .within }
 
   all-kept : 8 * keptCount file ≡ length (eventBytes file)
@@ -39,11 +39,11 @@ module _ (file : List ℕ) (small : length file ≤ 65535) (sound : soundFile fi
       let told = run-told (length (pageBytes file)) (eventBytes file) ∙ sound-events file sound in
       omega (arith, eqb-true run (length (eventBytes file) / 8) told, length-events file (sound-header file sound))
 
-  pub events-kept : keptEvents file ≡ eventBytes file
+  events-kept : keptEvents file ≡ eventBytes file
   events-kept = take-all (8 * keptCount file) (eventBytes file) (omega (arith, all-kept))
 
   -- so it is unchanged, where it is the file that is made of its parts
-  pub parts-unchanged : fileOf (eventBytes file) (pageBytes file) ≡ file → Unchanged file
+  parts-unchanged : fileOf (eventBytes file) (pageBytes file) ≡ file → Unchanged file
   parts-unchanged made =
       let same : salvaged file ≡ file = ap (λ (events : List ℕ). fileOf events (pageBytes file)) events-kept ∙ made in
       let none : droppedCount file ≡ 0 = omega (arith, all-kept) in
@@ -89,7 +89,7 @@ module _ (file : List ℕ) (same : reported file ≡ record { verdict = Done; ol
 
   -- none is dropped
   none-dropped : keptCount file ≡ w .events
-  none-dropped = omega (arith, saved file w .counted, ap (λ (r : Salvaged). r .dropped) told)
+  none-dropped = omega (arith, saved file w .others, ap (λ (r : Salvaged). r .dropped) told)
 
   same-events : keptEvents file ≡ eventBytes file
   same-events = take-all (8 * keptCount file) (eventBytes file) (omega (arith, none-dropped, length-before file w))

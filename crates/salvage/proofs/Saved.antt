@@ -99,6 +99,6 @@ module _ (file : List ℕ) (w : Salvageable file) where
     fits = omega (arith, new-total, small);
     sized = new-total ∙ sym new-length;
     shrinks = omega (arith, new-length, kept-few, length-pages file, w .counted, w .within);
-    counted = all-counted;
+    others = all-counted;
     wrong = first-dropped;
   }

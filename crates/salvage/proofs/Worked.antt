@@ -14,7 +14,7 @@ use Rattle.recording.specs.Files.{fileOf}
 use Rattle.recording.specs.Claims.{event, under}
 use Rattle.salvage.specs.Salvage.{keptCount, isSalvageable}
 use Rattle.salvage.specs.Reports.{reportParts, reportText}
-use Rattle.salvage.specs.Claims.{Tried, salvages, shows, refuses, triedSo}
+use Rattle.salvage.specs.Claims.{Salvaging, salvages, shows, refuses, triedSo}
 
 abbrev demount : List ℕ
 demount = event 5 0 0 0 0
@@ -34,7 +34,7 @@ two-bytes = 0xAA ∷ 0xBB ∷ []
 abbrev offset : ℕ → List ℕ
 offset from = under 2 8 from 26 (demount ++ demount ++ two-bytes)
 
-unfoldable pub table : List Tried
+unfoldable pub table : List Salvaging
 table =
     -- "shorter than 8 bytes"
     refuses []
@@ -103,7 +103,7 @@ many n = replicate n 0x00
 abbrev longest : (first : List ℕ) → List ℕ
 longest first = under 8190 8 65528 0 (first ++ many 65519)
 
-unfoldable pub limits : List Tried
+unfoldable pub limits : List Salvaging
 limits =
     -- 65,535 bytes, in a buffer of 16, and 65,536
     shows 16 (under 0 8 8 8 (many 65527)) (under 0 8 8 65535 (many 8)) "events 0 -> 0\nfirst event 8 -> 8\npage bytes 8 -> 8\ntotal 8 -> 65535\ndropped 0\n"

@@ -48,7 +48,7 @@ pub record Saved (file : List ℕ) (w : Salvageable file) : Type 0 where
   pub sized : header (salvaged file) .total ≡ length (salvaged file)
   pub shrinks : length (salvaged file) ≤ length file
   -- the others are counted as dropped, and the first of them is wrong
-  pub counted : keptCount file + droppedCount file ≡ w .events
+  pub others : keptCount file + droppedCount file ≡ w .events
   pub wrong : (none : Entry) → 0 < droppedCount file → sound (length (pageBytes file)) (getD (entries (eventBytes file)) (keptCount file) none) ≡ false
 
 -- a file that comes out the same, with nothing reported changed

@@ -17,18 +17,8 @@ impl Salvaged {
     // Of a file that can't be salvaged.
     pub const REFUSED: Salvaged = Salvaged {
         verdict: Verdict::NotSalvageable,
-        old: Header {
-            eventCount: 0,
-            firstEvent: 0,
-            pagesFrom: 0,
-            total: 0,
-        },
-        new: Header {
-            eventCount: 0,
-            firstEvent: 0,
-            pagesFrom: 0,
-            total: 0,
-        },
+        old: Header::NONE,
+        new: Header::NONE,
         dropped: 0,
     };
 }
