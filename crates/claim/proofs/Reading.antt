@@ -2,20 +2,18 @@
 -- Assumes nothing.
 use Prim.Native.Nat.{ℕ, zero, suc, _+_, _<_}
 use mathlib.Core.Path.{_≡_, refl, sym, ap, ap₂, _∙_, subst}
-use mathlib.Core.Bool.{true, not}
+use mathlib.Core.Bool.{true}
 use mathlib.Core.List.{List, [], _∷_, _++_, map, append-assoc, append-nil}
 use native.Mathlib.Nat.{not-suc-le-zero, le-of-suc-le-suc, zero-add}
 use native.Mathlib.Omega.{arith}
-use lib.Dec.{eqb, lit<}
+use lib.Dec.{lit<}
 use lib.ListN.{length, getD, length-append}
-use Rattle.arrays.proofs.Base.{both}
-use Rattle.arrays.proofs.Laws.{all-append}
 use Rattle.wire.specs.Parts.{joined}
 use Rattle.text.specs.Characters.{bytesOf}
 use Rattle.text.specs.Decimal.{decimal, readDecimal}
 use Rattle.text.specs.Pieces.{pieces, isWhole, linesOf, wordsOf, numbersOf}
 use Rattle.text.proofs.Decimal.{decimal-spells}
-use Rattle.text.proofs.Pieces.{decimal-whole, cut-after, cut-never}
+use Rattle.text.proofs.Pieces.{whole-append, decimal-whole, cut-after, cut-never}
 use Rattle.recording.specs.declared.Verdict.the-variants.{Done}
 use Rattle.claim.proofs.Claiming.{all-printed}
 use Rattle.claim.specs.Files.{claimVerdict, fileRows, claimText, claimPrinted}
@@ -71,14 +69,11 @@ total-reads total amount =
 
 -- ---- the lines of a text
 
-whole-append : (a b : List ℕ) → isWhole 10 a ≡ true → isWhole 10 b ≡ true → isWhole 10 (a ++ b) ≡ true
-whole-append a b v w = all-append (λ c. not (eqb c 10)) a b ∙ both (isWhole 10 a) (isWhole 10 b) v w
-
 columns-whole : (ns : List ℕ) → isWhole 10 (joined spaced ns) ≡ true
 unfolding joined bytesOf
 columns-whole [] = refl
 columns-whole (n ∷ ns) =
-    whole-append (32 ∷ decimal n) (joined spaced ns) (whole-append (bytesOf " ") (decimal n) refl (decimal-whole 10 (lit< tt) n)) (columns-whole ns)
+    whole-append 10 (32 ∷ decimal n) (joined spaced ns) (whole-append 10 (bytesOf " ") (decimal n) refl (decimal-whole 10 (lit< tt) n)) (columns-whole ns)
 
 -- rows without their ends
 abbrev texts : ℕ → List Row → List (List ℕ)
@@ -91,7 +86,7 @@ rows-lines k [] rest = refl
 rows-lines k (row ∷ rows) rest =
     let line = rowText k row in
     ap linesOf (append-assoc (line ++ 10 ∷ []) (rowLines (suc k) rows) rest ∙ append-assoc line (10 ∷ []) (rowLines (suc k) rows ++ rest))
-    ∙ cut-after 10 line (rowLines (suc k) rows ++ rest) (whole-append (decimal k) (columns row) (decimal-whole 10 (lit< tt) k) (columns-whole (row .encrypted ∷ row .external ∷ row .clear ∷ row .refused ∷ [])))
+    ∙ cut-after 10 line (rowLines (suc k) rows ++ rest) (whole-append 10 (decimal k) (columns row) (decimal-whole 10 (lit< tt) k) (columns-whole (row .encrypted ∷ row .external ∷ row .clear ∷ row .refused ∷ [])))
     ∙ ap (λ l. line ∷ l) (rows-lines (suc k) rows rest)
 
 total-line : (total : Row) (amount : ℕ) → linesOf (totalLine total amount) ≡ totalText total amount ∷ [] ∷ []
@@ -100,8 +95,8 @@ total-line total amount =
     let a = bytesOf "total" ++ columns total in
     let b = a ++ bytesOf " amount" in
     cut-after 10 (totalText total amount) []
-    (whole-append b (spaced amount) (whole-append a (bytesOf " amount") (whole-append (bytesOf "total") (columns total) refl (columns-whole (total .encrypted ∷ total .external ∷ total .clear ∷ total .refused ∷ []))) refl)
-    (whole-append (bytesOf " ") (decimal amount) refl (decimal-whole 10 (lit< tt) amount)))
+    (whole-append 10 b (spaced amount) (whole-append 10 a (bytesOf " amount") (whole-append 10 (bytesOf "total") (columns total) refl (columns-whole (total .encrypted ∷ total .external ∷ total .clear ∷ total .refused ∷ []))) refl)
+    (whole-append 10 (bytesOf " ") (decimal amount) refl (decimal-whole 10 (lit< tt) amount)))
 
 -- where each of them stands
 text-at : (j : ℕ) (rows : List Row) (tail : List (List ℕ)) (k : ℕ) → k < length rows → getD (texts j rows ++ tail) k [] ≡ rowText (j + k) (getD rows k noWrites)

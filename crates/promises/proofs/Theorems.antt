@@ -201,5 +201,7 @@ pub use Rattle.salvage.proofs.Saving.{written-whole}
 pub use Rattle.salvage.proofs.Same.{sound-unchanged, unchanged-was-sound, salvaged-twice}
 -- Replaying the new file gives the answers that the kept events give, and the record that they leave.
 pub use Rattle.salvage.proofs.Replayed.{kept-replayed}
+-- The report's lines, cut at their ends and their spaces, have the old and the new numbers and the count.
+pub use Rattle.salvage.proofs.Reading.{report-reads}
 -- Files salvaged by computing: the verdict, each byte of the buffer, and the report to the character.
 pub use Rattle.salvage.proofs.Worked.{table as salvage-table, limits as salvage-limits, table-salvaged, limits-salvaged, most-kept}

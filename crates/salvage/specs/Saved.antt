@@ -2,9 +2,12 @@
 use Prim.Native.Nat.{ℕ, _+_, _*_, _-_, _≤_, _<_}
 use mathlib.Core.Path.{_≡_}
 use mathlib.Core.Bool.{true, false}
-use mathlib.Core.List.{List}
+use mathlib.Core.List.{List, [], _∷_, map}
 use lib.ListN.{length, getD, take, drop}
 use Rattle.wire.specs.Buffers.{shown}
+use Rattle.text.specs.Characters.{bytesOf}
+use Rattle.text.specs.Decimal.{decimal}
+use Rattle.text.specs.Pieces.{linesOf, wordsOf}
 use Rattle.device.specs.Record.{State}
 use Rattle.drive.specs.Runs.{runFrom}
 use Rattle.recording.specs.Verdicts.{verdictNumber}
@@ -14,6 +17,8 @@ use Rattle.recording.specs.Entries.{entries, sound, calls}
 use Rattle.recording.specs.Files.{header, rightHeader, eventBytes, pageBytes, soundFile, fileVerdict, callsOf, fileOf}
 use Rattle.session.specs.Answers.{answerBytes}
 use Rattle.session.specs.Sessions.{recordAfter, bufferAfter}
+use Rattle.salvage.specs.declared.Salvaged.{Salvaged}
+use Rattle.salvage.specs.Reports.{reportText}
 use Rattle.salvage.specs.Salvage.{keptCount, keptEvents, salvaged, droppedCount, reported}
 
 -- a file that can be salvaged: at most 65,535 bytes, a stored page offset of 8 plus a multiple of 8, and within the file. `events` is how many
@@ -50,6 +55,17 @@ pub record Saved (file : List ℕ) (w : Salvageable file) : Type 0 where
   -- the others are counted as dropped, and the first of them is wrong
   pub others : keptCount file + droppedCount file ≡ w .events
   pub wrong : (none : Entry) → 0 < droppedCount file → sound (length (pageBytes file)) (getD (entries (eventBytes file)) (keptCount file) none) ≡ false
+
+-- the lines of a report, cut at their ends and their spaces: each header number's name, its old and its new value; then how many were dropped;
+-- and nothing after the last end
+pub record ReportReads (s : Salvaged) : Type 0 where
+  pub words : map wordsOf (linesOf (reportText s))
+      ≡ (bytesOf "events" ∷ decimal (s .old .eventCount) ∷ bytesOf "->" ∷ decimal (s .new .eventCount) ∷ [])
+      ∷ (bytesOf "first" ∷ bytesOf "event" ∷ decimal (s .old .firstEvent) ∷ bytesOf "->" ∷ decimal (s .new .firstEvent) ∷ [])
+      ∷ (bytesOf "page" ∷ bytesOf "bytes" ∷ decimal (s .old .pagesFrom) ∷ bytesOf "->" ∷ decimal (s .new .pagesFrom) ∷ [])
+      ∷ (bytesOf "total" ∷ decimal (s .old .total) ∷ bytesOf "->" ∷ decimal (s .new .total) ∷ [])
+      ∷ (bytesOf "dropped" ∷ decimal (s .dropped) ∷ [])
+      ∷ ([] ∷ []) ∷ []
 
 -- a file that comes out the same, with nothing reported changed
 pub record Unchanged (file : List ℕ) : Type 0 where

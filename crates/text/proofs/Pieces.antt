@@ -9,7 +9,7 @@ use borrow.Author.Tests.{eq-eqb, ne-eqb, leb-true, not-true}
 use lib.Dec.{eqb, leb}
 use Rattle.arrays.specs.Arrays.{all}
 use Rattle.arrays.proofs.Base.{both, and-both}
-use Rattle.arrays.proofs.Laws.{all-cons}
+use Rattle.arrays.proofs.Laws.{all-cons, all-append}
 use Rattle.text.specs.Decimal.{zeroDigit, digit, decimal, isDigit}
 use Rattle.text.specs.Pieces.{extended, pieces, isWhole}
 use Rattle.text.proofs.Decimal.{all-digits}
@@ -27,6 +27,10 @@ decimal-whole cut low n =
     all-also isDigit (λ c. not (eqb c cut))
     (λ c d. let h = leb-true zeroDigit c (and-both (leb zeroDigit c) (leb c (digit 9)) d .0) in ap not (ne-eqb c cut (λ e. absurd (omega (arith, h, low, e)))))
     (decimal n) (all-digits n)
+
+-- texts without a cut, one after the other
+pub whole-append : (cut : ℕ) (a b : List ℕ) → isWhole cut a ≡ true → isWhole cut b ≡ true → isWhole cut (a ++ b) ≡ true
+whole-append cut a b v w = all-append (λ c. not (eqb c cut)) a b ∙ both (isWhole cut a) (isWhole cut b) v w
 
 -- a cut, and the text before it
 pub cut-after : (cut : ℕ) (text rest : List ℕ) → isWhole cut text ≡ true → pieces cut (text ++ cut ∷ rest) ≡ text ∷ pieces cut rest
