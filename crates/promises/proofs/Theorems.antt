@@ -189,10 +189,10 @@ pub use Rattle.why.proofs.Parts.{starts-again, later-events-unread}
 pub use Rattle.why.proofs.Worked.{table as reason-table, refusals as reason-refusals, worked as reasons-proved}
 pub use Rattle.sentence.proofs.Worked.{table-told, modes-told, events-told, others-told, nexuses-recorded}
 pub use Rattle.sentence.proofs.Fits.{text-fits}
--- Document 02, request 12: 21 is due where the request says, and nowhere else.
-pub use Rattle.salvage.proofs.Due.{salvage-due}
+-- Document 02, request 12: 21 is due where the request says, and nowhere else; then nothing is reported, and no byte of any buffer written.
+pub use Rattle.salvage.proofs.Due.{salvage-due, not-saved}
 -- The new file: replay takes it; its events are the longest run, from the first and ending by the stored page offset, with which it does; its
--- page bytes are those from the stored page offset to the file's end; its header is right and fits.
+-- page bytes are those from the stored page offset to the file's end; its header is right and fits; both headers and the count of dropped events are reported.
 pub use Rattle.salvage.proofs.Saved.{saved}
 -- A buffer of 65,535 bytes has room for every new file.
 pub use Rattle.salvage.proofs.Saving.{written-whole}

@@ -1,6 +1,6 @@
 -- Laws of a recorded file.
 -- Assumes nothing.
-use Prim.Native.Nat.{ℕ, _+_, _*_, _-_, _/_}
+use Prim.Native.Nat.{ℕ, _+_, _*_, _-_, _/_, _≤_}
 use mathlib.Core.Path.{_≡_, sym, _∙_}
 use mathlib.Core.Bool.{true}
 use mathlib.Core.List.{List, [], _∷_}
@@ -45,10 +45,11 @@ module _ (file : List ℕ) where
   sound-events h = and-right (headed file) (allSound (length (pageBytes file)) (entries (eventBytes file))) h
 
   -- so many bytes of events, and of pages
+  pub length-before : header file .pagesFrom ≤ length file → length (eventBytes file) ≡ header file .pagesFrom - 8
+  length-before within = length-take-le (header file .pagesFrom - 8) (drop 8 file) (omega (arith, length-drop 8 file, within))
+
   pub length-events : Headed file → length (eventBytes file) ≡ 8 * header file .eventCount
-  length-events w =
-      let l = length-take-le (header file .pagesFrom - 8) (drop 8 file) (omega (arith, length-drop 8 file, w .within, w .counted)) in
-      omega (arith, l, w .counted)
+  length-events w = omega (arith, length-before (w .within), w .counted)
 
   pub length-pages : length (pageBytes file) ≡ length file - header file .pagesFrom
   length-pages = length-drop (header file .pagesFrom) file

@@ -13,7 +13,7 @@ use Rattle.recording.specs.Verdicts.{verdictNumber}
 use Rattle.recording.specs.Files.{header}
 use Rattle.salvage.specs.declared.Salvaged.{Salvaged}
 use Rattle.salvage.specs.Salvage.{isSalvageable, reported}
-use Rattle.salvage.specs.Saved.{Salvageable, SalvageDue}
+use Rattle.salvage.specs.Saved.{Salvageable, SalvageDue, NotSaved}
 
 module _ (file : List ℕ) where
   pub salvageable-told : isSalvageable file ≡ true → Salvageable file
@@ -40,12 +40,14 @@ module _ (file : List ℕ) where
       let whole : (from - 8) % 8 ≡ 0 = omega (arith, w .counted) in
       simp (le-leb 8 n (omega (arith, least, w .within)), le-leb n 65535 (w .small), le-leb 8 from least, eq-eqb ((from - 8) % 8) 0 whole, le-leb from n (w .within))
 
-  -- what can't be salvaged is answered 21
+  -- Of what can't be salvaged nothing is reported but 21, and nothing is written.
+  pub not-saved : (Salvageable file → ⊥) → NotSaved file
+  not-saved never =
+      let f : isSalvageable file ≡ false = cases (isSalvageable file) (λ t. absurd (never (salvageable-told t))) (λ f. f) in
+      record { reports = if-false (isSalvageable file) _ _ f; writes = λ buffer. if-false (isSalvageable file) _ _ f }
+
   refused : (Salvageable file → ⊥) → verdictNumber (reported file .verdict) ≡ 21
-  refused never =
-      cases (isSalvageable file)
-      (λ t. absurd (never (salvageable-told t)))
-      (λ f. ap (λ (r : Salvaged). verdictNumber (r .verdict)) (if-false (isSalvageable file) _ _ f))
+  refused never = ap (λ (r : Salvaged). verdictNumber (r .verdict)) (not-saved never .reports)
 
   pub salvage-due : SalvageDue file
   salvage-due = record {

@@ -25,7 +25,7 @@ use Rattle.salvage.specs.declared.Salvaged.{Salvaged}
 use Rattle.salvage.specs.Salvage.{keptCount, keptEvents, salvaged, droppedCount, isSalvageable, reported}
 use Rattle.salvage.specs.Saved.{Salvageable, Unchanged}
 use Rattle.salvage.proofs.Due.{salvageable-told, told-salvageable}
-use Rattle.salvage.proofs.Saved.{length-before, new-header, new-events, new-pages, saved}
+use Rattle.salvage.proofs.Saved.{events-bytes, new-header, new-events, new-pages, saved}
 
 -- a sound file of at most 65,535 bytes can be salvaged, and all its events are kept
 module _ (file : List ℕ) (small : length file ≤ 65535) (sound : soundFile file ≡ true) where
@@ -81,7 +81,7 @@ module _ (file : List ℕ) (same : reported file ≡ record { verdict = Done; ol
   w = salvageable-told file could
 
   told : _≡_ {A = Salvaged} (record { verdict = Done; old = header file; new = header (salvaged file); dropped = droppedCount file }) (record { verdict = Done; old = header file; new = header file; dropped = 0 })
-  told = sym (if-true (isSalvageable file) _ _ could) ∙ same
+  told = sym (saved file w .reports) ∙ same
 
   -- its header is the new one's, and right
   header-new : header file ≡ rightHeader (keptCount file) (length (pageBytes file))
@@ -92,7 +92,7 @@ module _ (file : List ℕ) (same : reported file ≡ record { verdict = Done; ol
   none-dropped = omega (arith, saved file w .others, ap (λ (r : Salvaged). r .dropped) told)
 
   same-events : keptEvents file ≡ eventBytes file
-  same-events = take-all (8 * keptCount file) (eventBytes file) (omega (arith, none-dropped, length-before file w))
+  same-events = take-all (8 * keptCount file) (eventBytes file) (omega (arith, none-dropped, events-bytes file w))
 
   pub unchanged-was-sound : soundFile file ≡ true
   unchanged-was-sound =

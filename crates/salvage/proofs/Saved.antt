@@ -5,29 +5,28 @@ use mathlib.Core.Path.{_≡_, sym, ap, _∙_}
 use mathlib.Core.Bool.{true, false}
 use mathlib.Core.List.{List}
 use native.Mathlib.Omega.{arith}
-use lib.ListN.{length, getD, take, drop, length-drop}
-use lib.Seq.{length-take-le, take-take}
+use lib.ListN.{length, getD, take, drop}
+use lib.Seq.{take-take}
+use Rattle.arrays.proofs.Base.{if-true}
 use Rattle.recording.specs.declared.Entry.{Entry}
 use Rattle.recording.specs.declared.Header.{Header}
 use Rattle.recording.specs.Entries.{entries, sound, allSound}
 use Rattle.recording.specs.Files.{header, rightHeader, eventBytes, pageBytes, soundFile, fileOf}
 use Rattle.recording.proofs.Entries.{length-entries}
 use Rattle.recording.proofs.Runs.{run-few, run-kept, run-longest, run-breaks}
-use Rattle.recording.proofs.Files.{length-pages}
+use Rattle.recording.proofs.Files.{length-before, length-pages}
 use Rattle.recording.proofs.Made.{cut-header, cut-length, cut-events, cut-pages, cut-exactly}
-use Rattle.salvage.specs.Salvage.{keptCount, keptEvents, salvaged, droppedCount}
+use Rattle.salvage.specs.Salvage.{keptCount, keptEvents, salvaged, droppedCount, isSalvageable}
 use Rattle.salvage.specs.Saved.{Salvageable, Saved}
+use Rattle.salvage.proofs.Due.{told-salvageable}
 
 module _ (file : List ℕ) (w : Salvageable file) where
-  pub length-before : length (eventBytes file) ≡ 8 * w .events
-  length-before =
-      let from = header file .pagesFrom in
-      let l = length-take-le (from - 8) (drop 8 file) (omega (arith, length-drop 8 file, w .counted, w .within)) in
-      omega (arith, l, w .counted)
+  pub events-bytes : length (eventBytes file) ≡ 8 * w .events
+  events-bytes = omega (arith, length-before file (w .within), w .counted)
 
   -- the whole events before the stored page offset
   length-whole : length (entries (eventBytes file)) ≡ w .events
-  length-whole = omega (arith, length-entries (eventBytes file), length-before)
+  length-whole = omega (arith, length-entries (eventBytes file), events-bytes)
 
   -- the first n of them
   first-events : (n : ℕ) → n ≤ w .events → take (8 * n) (eventBytes file) ≡ take (8 * n) (drop 8 file)
@@ -39,7 +38,7 @@ module _ (file : List ℕ) (w : Salvageable file) where
 
   -- n events fit, with the page bytes, in 65,535 bytes
   pub first-within : (n : ℕ) → n ≤ w .events → 8 * n ≤ length (eventBytes file)
-  first-within n h = omega (arith, h, length-before)
+  first-within n h = omega (arith, h, events-bytes)
 
   pub first-small : (n : ℕ) → n ≤ w .events → 8 + 8 * n + length (pageBytes file) < 65536
   first-small n h = omega (arith, h, length-pages file, w .small, w .counted, w .within)
@@ -82,11 +81,11 @@ module _ (file : List ℕ) (w : Salvageable file) where
   none-longer n h s = run-longest (length (pageBytes file)) n (entries (eventBytes file)) (omega (arith, h, length-whole)) (sym (first-taken n h) ∙ s)
 
   all-counted : keptCount file + droppedCount file ≡ w .events
-  all-counted = omega (arith, kept-few, length-before)
+  all-counted = omega (arith, kept-few, events-bytes)
 
   first-dropped : (none : Entry) → 0 < droppedCount file → sound (length (pageBytes file)) (getD (entries (eventBytes file)) (keptCount file) none) ≡ false
   unfolding keptCount
-  first-dropped none h = run-breaks (length (pageBytes file)) (entries (eventBytes file)) none (omega (arith, h, length-whole, length-before))
+  first-dropped none h = run-breaks (length (pageBytes file)) (entries (eventBytes file)) none (omega (arith, h, length-whole, events-bytes))
 
   pub saved : Saved file w
   saved = record {
@@ -101,4 +100,6 @@ module _ (file : List ℕ) (w : Salvageable file) where
     shrinks = omega (arith, new-length, kept-few, length-pages file, w .counted, w .within);
     others = all-counted;
     wrong = first-dropped;
+    reports = if-true (isSalvageable file) _ _ (told-salvageable file w);
+    writes = λ buffer. if-true (isSalvageable file) _ _ (told-salvageable file w);
   }

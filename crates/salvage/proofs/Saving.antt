@@ -7,7 +7,7 @@ use mathlib.Core.List.{List, _++_}
 use native.Mathlib.Omega.{arith}
 use lib.ListN.{length, take, drop}
 use lib.Seq.{length-take-le, take-all, take-at}
-use Rattle.arrays.proofs.Base.{if-true, if-false}
+use Rattle.arrays.proofs.Base.{if-false}
 use Rattle.wire.specs.Buffers.{shown}
 use Rattle.recording.specs.declared.Header.{Header}
 use Rattle.recording.specs.declared.Verdict.the-variants.{Done, NotSalvageable}
@@ -15,7 +15,7 @@ use Rattle.recording.specs.Files.{header, rightHeader, eventBytes, pageBytes, h
 use Rattle.salvage.specs.declared.Salvaged.{Salvaged}
 use Rattle.salvage.specs.Salvage.{keptCount, keptEvents, salvaged, isSalvageable, noHeader, Saves}
 use Rattle.salvage.specs.Saved.{Salvageable}
-use Rattle.salvage.proofs.Due.{salvageable-told, told-salvageable}
+use Rattle.salvage.proofs.Due.{salvageable-told}
 use Rattle.salvage.proofs.Saved.{first-within, first-small, kept-few, new-header, saved}
 
 -- 21 is reported, and nothing is written
@@ -51,17 +51,16 @@ module _ (file : List ℕ) (good : isSalvageable file ≡ true) where
   saves-all buffer = record {
     reports =
         (λ i. record { verdict = Done; old = header file; new = sym (new-header file w) i; dropped = length (eventBytes file) / 8 - kept })
-        ∙ sym (if-true (isSalvageable file) _ _ good);
-    writes = ap (λ (l : List ℕ). shown l buffer) parts-written ∙ sym (if-true (isSalvageable file) _ _ good);
+        ∙ sym (saved file w .reports);
+    writes = ap (λ (l : List ℕ). shown l buffer) parts-written ∙ sym (saved file w .writes buffer);
   }
 
 -- A buffer of 65,535 bytes has room for every new file: its first bytes, as many as the new total tells, are the new file.
 pub written-whole : (file buffer : List ℕ) {r : Salvaged} {after : List ℕ} → Saves file buffer r after → Salvageable file → 65535 ≤ length buffer → take (r .new .total) after ≡ salvaged file
 written-whole file buffer {r} {after} s w room =
-    let good = told-salvageable file w in
     let new = saved file w in
-    let total : r .new .total ≡ length (salvaged file) = ap (λ (x : Salvaged). x .new .total) (s .reports ∙ if-true (isSalvageable file) _ _ good) ∙ new .sized in
+    let total : r .new .total ≡ length (salvaged file) = ap (λ (x : Salvaged). x .new .total) (s .reports ∙ new .reports) ∙ new .sized in
     let fits : take (length buffer) (salvaged file) ≡ salvaged file = take-all (length buffer) (salvaged file) (omega (arith, new .fits, new .sized, room)) in
-    ap₂ (λ (n : ℕ) (l : List ℕ). take n l) total (s .writes ∙ if-true (isSalvageable file) _ _ good)
+    ap₂ (λ (n : ℕ) (l : List ℕ). take n l) total (s .writes ∙ new .writes buffer)
     ∙ ap (λ (l : List ℕ). take (length (salvaged file)) (l ++ drop (length (salvaged file)) buffer)) fits
     ∙ take-at (salvaged file) (drop (length (salvaged file)) buffer) (length (salvaged file)) refl

@@ -12,14 +12,14 @@ use Rattle.device.specs.Record.{State}
 use Rattle.drive.specs.Runs.{runFrom}
 use Rattle.recording.specs.Verdicts.{verdictNumber}
 use Rattle.recording.specs.declared.Entry.{Entry}
-use Rattle.recording.specs.declared.Verdict.the-variants.{Done}
+use Rattle.recording.specs.declared.Verdict.the-variants.{Done, NotSalvageable}
 use Rattle.recording.specs.Entries.{entries, sound, calls}
 use Rattle.recording.specs.Files.{header, rightHeader, eventBytes, pageBytes, soundFile, fileVerdict, callsOf, fileOf}
 use Rattle.session.specs.Answers.{answerBytes}
 use Rattle.session.specs.Sessions.{recordAfter, bufferAfter}
 use Rattle.salvage.specs.declared.Salvaged.{Salvaged}
 use Rattle.salvage.specs.Reports.{reportText}
-use Rattle.salvage.specs.Salvage.{keptCount, keptEvents, salvaged, droppedCount, reported}
+use Rattle.salvage.specs.Salvage.{keptCount, keptEvents, salvaged, droppedCount, noHeader, reported, written}
 
 -- a file that can be salvaged: at most 65,535 bytes, a stored page offset of 8 plus a multiple of 8, and within the file. `events` is how many
 -- whole events stand before it.
@@ -55,6 +55,14 @@ pub record Saved (file : List ℕ) (w : Salvageable file) : Type 0 where
   -- the others are counted as dropped, and the first of them is wrong
   pub others : keptCount file + droppedCount file ≡ w .events
   pub wrong : (none : Entry) → 0 < droppedCount file → sound (length (pageBytes file)) (getD (entries (eventBytes file)) (keptCount file) none) ≡ false
+  -- both headers and that count are reported, and the new file is written, as much of it as a buffer holds
+  pub reports : reported file ≡ record { verdict = Done; old = header file; new = header (salvaged file); dropped = droppedCount file }
+  pub writes : (buffer : List ℕ) → written file buffer ≡ shown (salvaged file) buffer
+
+-- one that can't be salvaged: 21, nothing is reported, and no byte of any buffer is written
+pub record NotSaved (file : List ℕ) : Type 0 where
+  pub reports : reported file ≡ record { verdict = NotSalvageable; old = noHeader; new = noHeader; dropped = 0 }
+  pub writes : (buffer : List ℕ) → written file buffer ≡ buffer
 
 -- the lines of a report, cut at their ends and their spaces: each header number's name, its old and its new value; then how many were dropped;
 -- and nothing after the last end
