@@ -436,6 +436,31 @@ static void page_k(u8 *p) {
     p[20] = 7;
 }
 
+// places taken by the nexuses from the first to before the end
+static void take(struct device *d, u8 first, u8 end, bool lock) {
+    u8 page[52];
+    page_k(page);
+    page[4] = 0x20 + lock;
+    for (u8 n = first; n < end; n++) security_out(d, n, 0x20, 0x10, page, sizeof page);
+}
+
+static void places_taken(struct device *d, u8 kind) {
+    u8 last = PLACES + 1;
+    switch (kind) {
+    case 6: take(d, 3, last + 1, false); break;
+    case 7: take(d, 3, last, true); take(d, last, last + 1, false); break;
+    case 8: take(d, 3, last, true); break;
+    case 9: take(d, 3, last + 1, true); break;
+    }
+}
+
+// a LOCAL page of nexus 15, which has no place; the record stays as it was, but for the counter
+static void local(struct device *start) {
+    struct device d = *start;
+    take(&d, 15, 16, false);
+    start->counter = d.counter;
+}
+
 static void turn(struct device *d, u8 kind) {
     u8 buffer[64] = {0}, page[52];
     usize length;
@@ -447,6 +472,7 @@ static void turn(struct device *d, u8 kind) {
     case 3: happen(d, DEMOUNT, 0); break;
     case 4: happen(d, MICROCODE, 0); break;
     case 5: decide_read(d, 3, 1, 0); break;
+    default: local(d);
     }
 }
 
@@ -457,6 +483,7 @@ int main(void) {
     struct device d;
     memset(&d, 0, sizeof d);
     security_out(&d, 3, 0x20, 0x10, page, sizeof page);
+    places_taken(&d, input[0]);
     u32 turns = input[1] * 10u;
     for (u32 i = 0; i < turns; i++) turn(&d, input[0]);
     u8 out = d.counter;

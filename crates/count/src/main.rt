@@ -4,6 +4,7 @@ use device_16::Device;
 use drive::Block;
 use drive::Command;
 use places::Event;
+use sizes_16::PLACES;
 
 fn page_k() -> [u8; 52] {
     let mut p = [0u8; 52];
@@ -77,6 +78,56 @@ fn outs(start: Device, n: u8, turns: u32) -> Device {
     d
 }
 
+// Page K with or without the lock.
+fn local_page(lock: bool) -> [u8; 52] {
+    let mut p = page_k();
+    p[4] = if lock { 0x21 } else { 0x20 };
+    p
+}
+
+// Places taken by the nexuses from the first to before the end, with or without the lock.
+fn taken(start: Device, first: u8, end: u8, lock: bool) -> Device {
+    let mut d = start;
+    let page = local_page(lock);
+    for n in first..end {
+        let w = drive_16::security_out(d, command(n, 0x10), &page);
+        let next = w.device;
+        d = next;
+    }
+    d
+}
+
+// LOCAL pages of nexus 15, which has no place, each from the same record but for the counter.
+fn locals(start: Device, turns: u32) -> Device {
+    let page = local_page(false);
+    let mut d = start;
+    let mut i: u32 = 0;
+    while i < turns {
+        let w = drive_16::security_out(d, command(15, 0x10), &page);
+        let next = w.device;
+        d = start;
+        d.counter = next.counter;
+        i += 1;
+    }
+    d
+}
+
+// The places taken before those pages, place 1 by nexus 3, place 2 by nexus 4 ..: all, without the lock; all, the last alone without
+// it; all but the last, with it; all, with it.
+fn places_taken(d: Device, kind: u8) -> Device {
+    let last = PLACES as u8 + 1;
+    if kind == 6 {
+        return taken(d, 3, last + 1, false);
+    }
+    if kind == 7 {
+        return taken(taken(d, 3, last, true), last, last + 1, false);
+    }
+    if kind == 8 {
+        return taken(d, 3, last, true);
+    }
+    taken(d, 3, last + 1, true)
+}
+
 fn events(start: Device, turns: u32, event: Event) -> Device {
     let mut d = start;
     let mut i: u32 = 0;
@@ -108,7 +159,7 @@ fn run(d: Device, kind: u8, n: u8, turns: u32) -> Device {
     if kind == 5 {
         return reads(d, n, turns);
     }
-    d
+    locals(places_taken(d, kind), turns)
 }
 
 fn turns_of(b: u8) -> u32 {

@@ -1,4 +1,6 @@
 pub mod Lengths
 pub mod Releases
 pub mod Sender
+pub mod Words
 pub mod Worked
+pub mod Mixtures

@@ -16,3 +16,10 @@ pub enum Room {
     Evicting(usize),
     NoRoom,
 }
+
+// Two words with one bit for each place, place 0's the lowest. Of the places for LOCAL sets `empty` has those that are empty, `unlocked`
+// those whose owner has lock 0.
+pub struct LocalWords {
+    pub empty: u32,
+    pub unlocked: u32,
+}

@@ -8,17 +8,18 @@ use parameters::ALL;
 use parameters::Fields;
 use parameters::LOCAL;
 use places::Event;
+use places::LocalWords;
 use places::Room;
 use sizes_16::NEXUSES;
 use sizes_16::PLACES;
 ghost use Prim.Native.Nat.{_<_};
 ghost use mathlib.Core.Path.{_≡_};
-ghost use Rattle.arrays.specs.Arrays.{mapFrom, each, find};
+ghost use Rattle.arrays.specs.Arrays.{mapFrom, each};
 ghost use Rattle.sizes_16.specs.Sizes.{placeCount};
 ghost use Rattle.device_16.specs.Model.{state, device};
-ghost use Rattle.device.specs.declared.Found.{Found};
 ghost use Rattle.places_16.specs.Taking.{roomAsked, actionsIn, takenIn};
-ghost use Rattle.places.specs.Actions.{sharedActions, release, establish, freed, act, acts, spared, releases, ownPlace, releaseOwn, emptyLocal, unlockedLocal, room, establishIn, senderAfter, supplemented, releasedBy, releaseStep};
+ghost use Rattle.places.specs.Actions.{sharedActions, release, establish, freed, act, acts, spared, releases, ownPlace, releaseOwn, room, establishIn, senderAfter, supplemented, releasedBy, releaseStep};
+ghost use Rattle.places.specs.Words.{localWords};
 
 fn free_all(d: Device, place: usize) -> [Nexus; NEXUSES]
     ensures { λ r. ⌜ r ≡ mapFrom (freed (state d) place) 0 (d .nexuses) ⌝ }
@@ -82,52 +83,38 @@ fn release_own(d: Device, n: u8) -> Device
     }
 }
 
-// The lowest empty place for a LOCAL set.
-fn lowest_empty(sets: [Set; PLACES]) -> Found
-    ensures { λ r. ⌜ r ≡ find Found.At Found.Nowhere emptyLocal sets ⌝ }
-{
-    for place in 0..PLACES {
-        let set = sets[place];
-        if places_code::is_empty_local(set, place) {
-            return Found::At(place);
-        }
-    }
-    Found::Nowhere
-}
-
-// The owner of a place for LOCAL sets has lock 0.
-fn is_unlocked_local(d: Device, set: Set, place: usize) -> bool
-    ensures { λ r. ⌜ r ≡ unlockedLocal (state d) place set ⌝ }
-{
-    let owner = device_16::nexus_at(d, set.owner as usize);
-    (place != 0) & !owner.lock
-}
-
-// The lowest place for LOCAL sets whose owner has lock 0.
-fn lowest_unlocked(d: Device) -> Found
-    ensures { λ r. ⌜ r ≡ find Found.At Found.Nowhere (unlockedLocal (state d)) (d .sets) ⌝ }
+// The words of the places for LOCAL sets, both in one pass. The nexuses are this function's own: one that is handed them and indexes
+// them copies them first.
+fn local_words(d: Device) -> LocalWords
+    ensures { λ r. ⌜ r ≡ localWords (state d) ⌝ }
 {
     let sets = d.sets;
-    for place in 0..PLACES {
+    let nexuses = d.nexuses;
+    let mut empty: u32 = 0;
+    let mut unlocked: u32 = 0;
+    let mut place = PLACES;
+    while 0 < place {
+        place -= 1;
         let set = sets[place];
-        if is_unlocked_local(d, set, place) {
-            return Found::At(place);
-        }
+        let owner = set.owner as usize;
+        let locked = if owner < NEXUSES {
+            nexuses[owner].lock
+        } else {
+            false
+        };
+        empty = 2 * empty + places_code::is_empty_local(set, place) as u32;
+        unlocked = 2 * unlocked + ((place != 0) & !locked) as u32;
     }
-    Found::Nowhere
+    LocalWords { empty, unlocked }
 }
 
 // The place of a LOCAL page: its present place, else the lowest empty one, else the lowest whose owner has lock 0.
 pub fn room_for(d: Device, n: u8) -> Room
     ensures { λ r. ⌜ r ≡ room (state d) n ⌝ }
 {
-    let sets = d.sets;
     match own_place(d, n) {
         Found::At(place) => Room::Free(place),
-        Found::Nowhere => places_code::free_at(
-            lowest_empty(sets),
-            places_code::evicting_at(lowest_unlocked(d)),
-        ),
+        Found::Nowhere => places_code::room_by(local_words(d)),
     }
 }
 

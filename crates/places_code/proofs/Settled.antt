@@ -6,10 +6,8 @@ use Rattle.places_code.proofs.free.Reads as free
 use Rattle.places_code.proofs.free.Kinds as free-kinds
 use Rattle.places_code.proofs.is_empty_local.Reads as is-empty-local
 use Rattle.places_code.proofs.is_empty_local.Kinds as is-empty-local-kinds
-use Rattle.places_code.proofs.free_at.Reads as free-at
-use Rattle.places_code.proofs.free_at.Kinds as free-at-kinds
-use Rattle.places_code.proofs.evicting_at.Reads as evicting-at
-use Rattle.places_code.proofs.evicting_at.Kinds as evicting-at-kinds
+use Rattle.places_code.proofs.room_by.Reads as room-by
+use Rattle.places_code.proofs.room_by.Kinds as room-by-kinds
 use Rattle.places_code.proofs.is_no_room.Reads as is-no-room
 use Rattle.places_code.proofs.is_no_room.Kinds as is-no-room-kinds
 use Rattle.places_code.proofs.needs_place.Reads as needs-place
@@ -30,11 +28,8 @@ free-settles κs a x y s t p q = same p q
 pub is-empty-local-settles : SettlesAnswer 0 is-empty-local-kinds.ps is-empty-local-kinds.r is-empty-local.Post
 is-empty-local-settles κs a x y s t p q = same p q
 
-pub free-at-settles : SettlesAnswer 0 free-at-kinds.ps free-at-kinds.r free-at.Post
-free-at-settles κs a x y s t p q = same p q
-
-pub evicting-at-settles : SettlesAnswer 0 evicting-at-kinds.ps evicting-at-kinds.r evicting-at.Post
-evicting-at-settles κs a x y s t p q = same p q
+pub room-by-settles : SettlesAnswer 0 room-by-kinds.ps room-by-kinds.r room-by.Post
+room-by-settles κs a x y s t p q = same p q
 
 pub is-no-room-settles : SettlesAnswer 0 is-no-room-kinds.ps is-no-room-kinds.r is-no-room.Post
 is-no-room-settles κs a x y s t p q = same p q

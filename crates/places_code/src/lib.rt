@@ -8,12 +8,14 @@ use parameters::LOCAL;
 use parameters::SUPPLEMENTAL_MOST;
 use parameters::Supplemental;
 use places::Event;
+use places::LocalWords;
 use places::Room;
 ghost use mathlib.Core.Path.{_≡_};
 ghost use Rattle.arrays.specs.Base.{if_then_else_};
 ghost use Rattle.parameters.specs.Codes.{publicScope};
 ghost use Rattle.device.specs.Updates.{withScope};
 ghost use Rattle.places.specs.Actions.{drawn, due, emptyLocal, freeAt, evictingAt, isNoRoom, needsPlace, nexusAfter, appended, releasedBy};
+ghost use Rattle.places.specs.Words.{lowestBit, roomBy};
 
 // The next number: one counter, 32 bits, that wraps.
 pub fn draw(counter: u32) -> u32
@@ -39,7 +41,7 @@ pub fn is_empty_local(set: Set, place: usize) -> bool
     (place != 0) & (set.scope == 0)
 }
 
-pub fn free_at(found: Found, other: Room) -> Room
+fn free_at(found: Found, other: Room) -> Room
     ensures { λ r. ⌜ r ≡ freeAt found other ⌝ }
 {
     match found {
@@ -48,13 +50,33 @@ pub fn free_at(found: Found, other: Room) -> Room
     }
 }
 
-pub fn evicting_at(found: Found) -> Room
+fn evicting_at(found: Found) -> Room
     ensures { λ r. ⌜ r ≡ evictingAt found ⌝ }
 {
     match found {
         Found::At(place) => Room::Evicting(place),
         Found::Nowhere => Room::NoRoom,
     }
+}
+
+// The place of a word's lowest set bit.
+fn lowest_bit(word: u32) -> Found
+    ensures { λ r. ⌜ r ≡ lowestBit word ⌝ }
+{
+    if word == 0 {
+        return Found::Nowhere;
+    }
+    Found::At(u32::trailing_zeros(word) as usize)
+}
+
+// The place of a LOCAL set by the words: the lowest empty one, else the lowest whose owner has lock 0, which is first released.
+pub fn room_by(words: LocalWords) -> Room
+    ensures { λ r. ⌜ r ≡ roomBy words ⌝ }
+{
+    free_at(
+        lowest_bit(words.empty),
+        evicting_at(lowest_bit(words.unlocked)),
+    )
 }
 
 pub fn is_no_room(room: Room) -> bool

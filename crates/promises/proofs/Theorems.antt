@@ -34,6 +34,10 @@ pub use Rattle.record.proofs.RoundTrip.{read-of-written as record-read-of-writt
 pub use Rattle.record.proofs.Formed.{good-is-formed}
 -- P1 to P10 hold of the definitions, pages as bytes, and further rows for the errors that look right.
 pub use Rattle.drive.proofs.Table.{table, proved, further, further-proved}
+-- Document 02, request 4: of any record with up to 32 places, the place of a LOCAL page by the words is the one that document 01 gives; all
+-- mixtures of empty, taken and locked places, computed.
+pub use Rattle.places.proofs.Words.{room-by-words}
+pub use Rattle.places.proofs.Mixtures.{mixtures-computed}
 -- Whoever sends: each of answers 1 to 4 is due where document 01 says; of a security command 5 and 6, of IN then 0, of a write 11, 12
 -- and 0. And a block goes down encrypted, external or clear exactly if nothing stops its write and its set has the mode of that name.
 pub use Rattle.due.proofs.Due.{sent-due, in-due, out-due, write-due, write-becomes}
