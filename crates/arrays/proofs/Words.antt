@@ -96,5 +96,11 @@ module _ {A : Type 0} {p : ℕ → A → Bool} {n : ℕ} {xs : List A} where
       omega (arith, below, double (n - i), fits, bit-few b)
 
   -- each bit is there
-  pub word-ends : {i w : ℕ} → Worded p n xs i w → i ≤ 0 → w ≡ wordOf p xs
+  word-ends : {i w : ℕ} → Worded p n xs i w → i ≤ 0 → w ≡ wordOf p xs
   word-ends {i} r h = let e : i ≡ 0 = omega arith in rw e at (r .made)
+
+  -- each but element 0's, which doesn't pass: one more doubling
+  pub word-ends-above-0 : {i w : ℕ} → Worded p n xs i w → 0 < i → i ≤ 1 → (d : A) → p 0 (getD xs 0 d) ≡ false → 2 * w ≡ wordOf p xs
+  word-ends-above-0 {i} {w} r h l d e =
+      let one : i ≡ 1 = omega arith in
+      sym (add-zero (2 * w)) ∙ word-ends (word-more r h d {b = false} (rw one (sym e))) (omega arith)

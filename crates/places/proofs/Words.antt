@@ -13,7 +13,6 @@ use Rattle.device.specs.declared.Found.{Found}
 use Rattle.device.specs.declared.Found.the-variants.{At, Nowhere}
 use Rattle.places.specs.Actions.{emptyLocal, unlockedLocal, ownPlace, freeAt, evictingAt, room}
 use Rattle.places.specs.Words.{localWords, lowestBit, roomBy}
-use Rattle.places.specs.declared.Room.{Room}
 
 -- of up to 32 places, the word's lowest set bit is the lowest place that passes
 lowest-place : (p : ℕ → Set → Bool) (sets : List Set) → length sets ≤ 32 → lowestBit (wordOf p sets) ≡ find At Nowhere p sets

@@ -83,8 +83,8 @@ fn release_own(d: Device, n: u8) -> Device
     }
 }
 
-// The words of the places for LOCAL sets, both in one pass. The nexuses are this function's own: one that is handed them and indexes
-// them copies them first.
+// The words of the places for LOCAL sets, both in one pass down to place 1: place 0 has no bit but its place in the words. The arrays are
+// this function's own, since one that is handed an array and indexes it copies it first.
 fn local_words(d: Device) -> LocalWords
     ensures { λ r. ⌜ r ≡ localWords (state d) ⌝ }
 {
@@ -93,7 +93,7 @@ fn local_words(d: Device) -> LocalWords
     let mut empty: u32 = 0;
     let mut unlocked: u32 = 0;
     let mut place = PLACES;
-    while 0 < place {
+    while 1 < place {
         place -= 1;
         let set = sets[place];
         let owner = set.owner as usize;
@@ -102,10 +102,13 @@ fn local_words(d: Device) -> LocalWords
         } else {
             false
         };
-        empty = 2 * empty + places_code::is_empty_local(set, place) as u32;
-        unlocked = 2 * unlocked + ((place != 0) & !locked) as u32;
+        empty = 2 * empty + (set.scope == 0) as u32;
+        unlocked = 2 * unlocked + !locked as u32;
     }
-    LocalWords { empty, unlocked }
+    LocalWords {
+        empty: 2 * empty,
+        unlocked: 2 * unlocked,
+    }
 }
 
 // The place of a LOCAL page: its present place, else the lowest empty one, else the lowest whose owner has lock 0.

@@ -4,8 +4,6 @@ use Rattle.places_code.proofs.draw.Reads as draw
 use Rattle.places_code.proofs.draw.Kinds as draw-kinds
 use Rattle.places_code.proofs.free.Reads as free
 use Rattle.places_code.proofs.free.Kinds as free-kinds
-use Rattle.places_code.proofs.is_empty_local.Reads as is-empty-local
-use Rattle.places_code.proofs.is_empty_local.Kinds as is-empty-local-kinds
 use Rattle.places_code.proofs.room_by.Reads as room-by
 use Rattle.places_code.proofs.room_by.Kinds as room-by-kinds
 use Rattle.places_code.proofs.is_no_room.Reads as is-no-room
@@ -24,9 +22,6 @@ draw-settles κs a x y s t p q = same p q
 
 pub free-settles : SettlesAnswer 0 free-kinds.ps free-kinds.r free.Post
 free-settles κs a x y s t p q = same p q
-
-pub is-empty-local-settles : SettlesAnswer 0 is-empty-local-kinds.ps is-empty-local-kinds.r is-empty-local.Post
-is-empty-local-settles κs a x y s t p q = same p q
 
 pub room-by-settles : SettlesAnswer 0 room-by-kinds.ps room-by-kinds.r room-by.Post
 room-by-settles κs a x y s t p q = same p q

@@ -14,7 +14,7 @@ ghost use mathlib.Core.Path.{_≡_};
 ghost use Rattle.arrays.specs.Base.{if_then_else_};
 ghost use Rattle.parameters.specs.Codes.{publicScope};
 ghost use Rattle.device.specs.Updates.{withScope};
-ghost use Rattle.places.specs.Actions.{drawn, due, emptyLocal, freeAt, evictingAt, isNoRoom, needsPlace, nexusAfter, appended, releasedBy};
+ghost use Rattle.places.specs.Actions.{drawn, due, freeAt, evictingAt, isNoRoom, needsPlace, nexusAfter, appended, releasedBy};
 ghost use Rattle.places.specs.Words.{lowestBit, roomBy};
 
 // The next number: one counter, 32 bits, that wraps.
@@ -33,12 +33,6 @@ pub fn free(nexus: Nexus, held: bool) -> Nexus
         out.scope = 0;
     }
     out
-}
-
-pub fn is_empty_local(set: Set, place: usize) -> bool
-    ensures { λ r. ⌜ r ≡ emptyLocal place set ⌝ }
-{
-    (place != 0) & (set.scope == 0)
 }
 
 fn free_at(found: Found, other: Room) -> Room

@@ -66,7 +66,6 @@ pub use Rattle.marks_code.proofs.Settled.{clear-marks-settles as marks-code-cle
 -- crate places_code
 pub use Rattle.places_code.proofs.Settled.{draw-settles as places-code-draw-settles}
 pub use Rattle.places_code.proofs.Settled.{free-settles as places-code-free-settles}
-pub use Rattle.places_code.proofs.Settled.{is-empty-local-settles as places-code-is-empty-local-settles}
 pub use Rattle.places_code.proofs.Settled.{room-by-settles as places-code-room-by-settles}
 pub use Rattle.places_code.proofs.Settled.{is-no-room-settles as places-code-is-no-room-settles}
 pub use Rattle.places_code.proofs.Settled.{needs-place-settles as places-code-needs-place-settles}

@@ -1,16 +1,17 @@
 use borrow.Author.Needs.{needs}
-use Prim.Native.Nat.{ℕ, _-_, _≤_}
+use borrow.Author.Tests.{ne-eqb}
+use Prim.Native.Nat.{ℕ, _-_, _≤_, _<_}
 use mathlib.Core.Bool.{Bool, true, not, _&&_}
 use mathlib.Core.List.{List}
 use mathlib.Core.Logic.{⊎-elim}
-use mathlib.Core.Path.{_≡_, sym, ap, ap₂, _∙_}
+use mathlib.Core.Path.{_≡_, refl, sym, ap, ap₂, _∙_}
 use native.Mathlib.Omega.{arith}
-use lib.Dec.{eqb, lit≤}
+use lib.Dec.{eqb, lit≤, lit<}
 use lib.ListN.{length, getD, List·getD-eq-default}
 use Rattle.arrays.proofs.Laws.{sized-field}
-use Rattle.arrays.proofs.Words.{Worded, word-starts, word-more, word-fits, word-ends}
+use Rattle.arrays.proofs.Words.{Worded, word-starts, word-more, word-fits, word-ends-above-0}
 use Rattle.sizes_16.specs.Sizes.{nexusCount, placeCount}
-use Rattle.device.specs.Record.{newNexus, noSet}
+use Rattle.device.specs.Record.{newNexus, noSet, empty}
 use Rattle.device.specs.declared.Nexus.{Nexus}
 use Rattle.device.specs.declared.Set.{Set}
 use Rattle.places.specs.Actions.{emptyLocal}
@@ -23,7 +24,7 @@ unlockedBy nexuses place set = not (eqb place 0) && not (getD nexuses (set .owne
 
 abbrev Inv-loop : tie.InvT-loop
 Inv-loop sets nexuses empty₀ unlocked₀ place₀ empty unlocked place =
-    Worded emptyLocal placeCount sets place empty × Worded (unlockedBy nexuses) placeCount sets place unlocked
+    (0 < place) × Worded emptyLocal placeCount sets place empty × Worded (unlockedBy nexuses) placeCount sets place unlocked
 
 abbrev μ-loop : tie.MeasureT-loop
 μ-loop sets nexuses empty₀ unlocked₀ place₀ empty unlocked place = place
@@ -41,26 +42,37 @@ lock-read c =
     w .1 ∙ ap (λ (x : Nexus). x .lock) (sym (List·getD-eq-default (d .nexuses) newNexus h)))
     (c .if1 .came)
 
+-- above place 0 the test is the rest of it
+above-0 : (place : ℕ) → 1 < place → (b : Bool) → b ≡ (not (eqb (place - 1) 0) && b)
+above-0 place h b = simp (ne-eqb (place - 1) 0 (λ e. omega arith))
+
 pub local-words-spec : {M : Type 1} → statement M
 local-words-spec =
     tie.close
     (tie.spec Inv-loop μ-loop
-    (λ c. (word-starts (search (needs, sized-field)), word-starts (search (needs, sized-field))))
+    (λ c. (lit< tt, word-starts (search (needs, sized-field)), word-starts (search (needs, sized-field))))
     (λ c. search needs)
     (λ c. search needs)
     (λ c. search needs)
     (λ c. search needs)
     (λ c. search needs)
     (λ c. search needs)
-    (λ c. omega (arith, word-fits (c .before .before .before .before .loop .inv .0) (search needs) 32 (lit≤ tt) true))
-    (λ c κs. search needs)
-    (λ c. search needs)
-    (λ c. omega (arith, word-fits (c .before .before .before .before .before .loop .inv .0) (search needs) 32 (lit≤ tt) (c .is-empty-local .result)))
-    (λ c. omega (arith, word-fits (c .before .before .before .before .before .loop .inv .1) (search needs) 32 (lit≤ tt) true))
-    (λ c. search needs)
-    (λ c. omega (arith, word-fits (c .before .before .before .before .before .loop .inv .1) (search needs) 32 (lit≤ tt) (not (eqb (c .before .before .before .before .before .loop .place - 1) 0) && not (c .before .if1 .locked))))
+    (λ c. let inv = c .before .before .before .before .loop .inv in omega (arith, word-fits (inv .1) (inv .0) 32 (lit≤ tt) true))
     (λ c. search needs)
     (λ c.
     let loop = c .before .before .before .before .before .loop in
-    (word-more (loop .inv .0) (search needs) noSet (c .is-empty-local .ensures), word-more (loop .inv .1) (search needs) noSet (ap (λ (locked : Bool). not (eqb (loop .place - 1) 0) && not locked) (lock-read (c .before)))))
-    (λ c. ap₂ (λ (empty unlocked : ℕ). record { empty = empty; unlocked = unlocked }) (word-ends (c .before .loop .inv .0) (search needs)) (word-ends (c .before .loop .inv .1) (search needs))))
+    let d = c .before .before .before .before .before .before .before .before .args .d in
+    omega (arith, word-fits (loop .inv .1) (loop .inv .0) 32 (lit≤ tt) (empty (getD (d .sets) (loop .place - 1) noSet))))
+    (λ c. let inv = c .before .before .before .before .before .loop .inv in omega (arith, word-fits (inv .2) (inv .0) 32 (lit≤ tt) true))
+    (λ c. search needs)
+    (λ c. let inv = c .before .before .before .before .before .loop .inv in omega (arith, word-fits (inv .2) (inv .0) 32 (lit≤ tt) (not (c .before .if1 .locked))))
+    (λ c. search needs)
+    (λ c.
+    let loop = c .before .before .before .before .before .loop in
+    let above = c .before .before .before .before .loop-test .taken in
+    (omega (arith, above), word-more (loop .inv .1) (loop .inv .0) noSet (above-0 (loop .place) above _), word-more (loop .inv .2) (loop .inv .0) noSet (ap not (lock-read (c .before)) ∙ above-0 (loop .place) above _)))
+    (λ c. let inv = c .before .loop .inv in omega (arith, word-fits (inv .1) (inv .0) 32 (lit≤ tt) true))
+    (λ c. let inv = c .before .loop .inv in omega (arith, word-fits (inv .2) (inv .0) 32 (lit≤ tt) true))
+    (λ c.
+    let inv = c .before .loop .inv in
+    ap₂ (λ (empty unlocked : ℕ). record { empty = empty; unlocked = unlocked }) (word-ends-above-0 (inv .1) (inv .0) (search needs) noSet refl) (word-ends-above-0 (inv .2) (inv .0) (search needs) noSet refl)))
