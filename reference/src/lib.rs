@@ -1,4 +1,4 @@
-//! A second, independent account of document 01, and of requests 1 to 3, 5, 8, 11 and 12 of document 02: the encryption
+//! A second, independent account of document 01, and of requests 1 to 5, 8, 11 and 12 of document 02: the encryption
 //! controller of a tape drive, batches of events, the replay of recorded sessions, the reasons of their writes, their
 //! claim and the salvage of damaged ones, and the programs that compare them with others on a pipe. Host tools beside it:
 //! recordings as text, and the page of a claim.

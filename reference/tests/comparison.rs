@@ -8,6 +8,8 @@
 mod failures;
 #[path = "support/wrong_batchers.rs"]
 mod wrong_batchers;
+#[path = "support/wrong_places.rs"]
+mod wrong_places;
 
 use reference::codes::{ceem, decryption, encryption, scope};
 use reference::comparison::session;
@@ -18,6 +20,7 @@ use std::io::{self, Write};
 use std::process::{Command as Program, ExitCode};
 use std::thread;
 use wrong_batchers::BATCH_FAULTS;
+use wrong_places::PLACE_FAULTS;
 
 /// What a fault sees and spoils: the command, the record before it, the reply, and the record after it.
 struct Moment<'parts> {
@@ -449,6 +452,11 @@ fn commands_in(report: &str) -> Option<usize> {
     rest.split_once(' ')?.0.parse().ok()
 }
 
+/// The wrong drives that the directed sessions alone are to find.
+fn of_requests() -> impl Iterator<Item = &'static Fault> {
+    READ_FAULTS.iter().chain(&CEEM_FAULTS).chain(&PLACE_FAULTS).chain(&BATCH_FAULTS)
+}
+
 /// Every test; the texts of those that failed.
 fn failures() -> Vec<String> {
     let mut failures = Vec::new();
@@ -464,8 +472,7 @@ fn failures() -> Vec<String> {
     let this = std::env::current_exe().expect("this program has a path");
     let this = this.to_string_lossy();
     let faults = FAULTS.iter().map(|fault| (fault, &["--calls", "20000"][..]));
-    let of_requests = READ_FAULTS.iter().chain(&CEEM_FAULTS).chain(&BATCH_FAULTS);
-    let of_requests = of_requests.map(|fault| (fault, &["--directed"][..]));
+    let of_requests = of_requests().map(|fault| (fault, &["--directed"][..]));
     let faults: Vec<_> = faults.chain(of_requests).collect();
     let (some, others) = faults.split_at(faults.len() / 2);
     let find = |faults: &[(&Fault, &[&str])]| -> Vec<String> {
@@ -499,7 +506,7 @@ fn failure_of((name, _, longest): &Fault, sessions: &[&str], this: &str) -> Opti
 fn main() -> ExitCode {
     let arguments: Vec<String> = std::env::args().collect();
     if let Some(at) = arguments.iter().position(|argument| argument == "--fault") {
-        let mut faults = FAULTS.iter().chain(&READ_FAULTS).chain(&CEEM_FAULTS).chain(&BATCH_FAULTS);
+        let mut faults = FAULTS.iter().chain(of_requests());
         let fault = faults.find(|(name, _, _)| *name == arguments[at + 1]);
         let (_, fault, _) = fault.expect("the fault has a name");
         return if faulty_drive(*fault).is_ok() { ExitCode::SUCCESS } else { ExitCode::FAILURE };

@@ -9,6 +9,7 @@ mod directed;
 pub mod numbers;
 mod other_drive;
 pub mod page_builder;
+mod place_cases;
 mod random;
 mod reached;
 pub mod reasons;

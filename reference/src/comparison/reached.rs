@@ -2,6 +2,7 @@
 
 use super::batch_cases::BatchCase;
 use super::ceem_cases::CeemCase;
+use super::place_cases::{PlaceCase, PlaceHistory};
 use super::report::kind_name;
 use crate::account::{Account, ReadCell, Rule};
 use crate::codes::{decryption, encryption};
@@ -48,6 +49,7 @@ pub enum Item {
     ReadKey(u8),
     Ceem(CeemCase),
     Batch(BatchCase),
+    Place(PlaceCase),
 }
 
 impl Item {
@@ -75,6 +77,7 @@ impl Item {
             Item::ReadKey(_) => "keys of reads",
             Item::Ceem(case) => case.group(),
             Item::Batch(case) => case.group(),
+            Item::Place(case) => case.group(),
         }
     }
 
@@ -86,6 +89,7 @@ impl Item {
             Item::SetPageByte(..) | Item::ReadCell(_) | Item::ReadKind(_) | Item::ReadKey(_) => true,
             Item::Ceem(_) => true,
             Item::Batch(case) => case.is_one_of_all_values(),
+            Item::Place(case) => case.is_one_of_all_values(),
             _ => false,
         }
     }
@@ -116,6 +120,7 @@ impl fmt::Display for Item {
             Item::ReadKind(number) | Item::ReadKey(number) => write!(formatter, "{number}"),
             Item::Ceem(case) => write!(formatter, "{case}"),
             Item::Batch(case) => write!(formatter, "{case}"),
+            Item::Place(case) => write!(formatter, "{case}"),
         }
     }
 }
@@ -169,6 +174,7 @@ pub struct Reached {
     counts: BTreeMap<Item, u64>,
     page_bytes: BTreeMap<usize, Vec<u64>>,
     page_rule_pairs: BTreeSet<(PageRule, PageRule)>,
+    places: PlaceHistory,
     pub calls: u64,
 }
 
@@ -200,6 +206,9 @@ impl Reached {
         }
         for case in BatchCase::of(command, before, reply, account) {
             self.add(Item::Batch(case));
+        }
+        for case in self.places.follow(command, before, reply, account) {
+            self.add(Item::Place(case));
         }
         self.count_account(account);
     }
@@ -310,6 +319,7 @@ impl Reached {
         wanted.extend((0..=255).map(Item::ReadKey));
         wanted.extend(CeemCase::every().into_iter().map(Item::Ceem));
         wanted.extend(BatchCase::every().into_iter().map(Item::Batch));
+        wanted.extend(PlaceCase::every().into_iter().map(Item::Place));
         wanted.sort();
         wanted
     }

@@ -8,6 +8,7 @@ mod descriptors;
 mod events;
 mod examples;
 mod kinds;
+mod local_places;
 mod page_rules;
 mod pending;
 mod places;
@@ -29,6 +30,12 @@ pub fn examples(sink: &mut Sink) {
 
 /// Every directed session.
 pub fn sessions(sink: &mut Sink) {
+    sessions_for_recordings(sink);
+    local_places::sessions(sink);
+}
+
+/// The directed sessions of which recordings are made too.
+pub fn sessions_for_recordings(sink: &mut Sink) {
     examples::sessions(sink);
     kinds::sessions(sink);
     batches::sessions(sink);

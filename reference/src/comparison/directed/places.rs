@@ -14,6 +14,7 @@ use crate::stream::{kind, Command};
 pub fn sessions(sink: &mut Sink) {
     transitions(sink);
     all_places_taken(sink);
+    pending_owners(sink);
     eviction_in_turn(sink);
     wraps(sink);
     same_numbers(sink);
@@ -115,6 +116,25 @@ fn all_places_taken(sink: &mut Sink) {
             commands.push(security_out(7, SetPage::k().bytes()));
             sink(Session { name: "all places taken".to_string(), commands });
         }
+    }
+}
+
+/// All places taken, each owner locked or not, and with something pending, which loaded records alone bring about: a fifth
+/// nexus, each owner's page with the other LOCK, which isn't carried out, and a sixth nexus.
+fn pending_owners(sink: &mut Sink) {
+    let owners = [7, 2, 12, 0];
+    for locks in 0..16 {
+        let mut record = full(owners);
+        let mut commands = Vec::new();
+        for (at, owner) in owners.into_iter().enumerate() {
+            let lock = locks >> at & 1 != 0;
+            record.nexuses[owner].lock = lock;
+            record.nexuses[owner].changed_by_another_nexus = true;
+            commands.push(security_out(owner as u8, SetPage { lock: !lock, ..SetPage::k() }.bytes()));
+        }
+        let [fifth, sixth] = [4, 6].map(|nexus| security_out(nexus, SetPage::k().bytes()));
+        let commands = [vec![load(&record), fifth], commands, vec![sixth]].concat();
+        sink(Session { name: "owners with something pending".to_string(), commands });
     }
 }
 

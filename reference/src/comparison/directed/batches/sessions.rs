@@ -1,7 +1,7 @@
 //! The sessions of other files as batches: what can be recorded of them, up to 64 calls at a time.
 
 use crate::comparison::batch_builder::BatchParts;
-use crate::comparison::directed::{examples, pending, places, restoring};
+use crate::comparison::directed::{examples, local_places, pending, places, restoring};
 use crate::comparison::recordings::builder::is_recordable;
 use crate::comparison::session::{Session, Sink};
 use crate::recording::BATCH_EVENTS;
@@ -17,6 +17,7 @@ pub fn sessions(sink: &mut Sink) {
     examples::sessions(&mut batched);
     restoring::sessions(&mut batched);
     places::sessions(&mut batched);
+    local_places::sessions(&mut batched);
     pending::sessions(&mut batched);
 }
 

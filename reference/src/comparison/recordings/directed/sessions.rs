@@ -17,7 +17,7 @@ pub fn recordings(sink: &mut Sink) {
         put(sink, Group::Examples, session.name, recording_of(&session.commands[1..]).bytes());
     });
     let mut packer = Packer { builder: Builder::default(), number: 0, sink };
-    directed::sessions(&mut |session| packer.add(&session));
+    directed::sessions_for_recordings(&mut |session| packer.add(&session));
     lengths(&mut |session| packer.add(&session));
     edits(&mut |session| packer.add(&session));
     releases(&mut |session| packer.add(&session));
