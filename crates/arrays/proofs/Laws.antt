@@ -53,6 +53,18 @@ module _ {A R : Type 0} (at : ℕ → R) (none : R) (p : ℕ → A → Bool) (d 
   pub find-by : (xs : List A) → ((k : ℕ) → k < length xs → p k (getD xs k d) ≡ true → P (at k)) → P none → P (find at none p xs)
   find-by xs f n = find-from xs 0 (λ k h. rw zero-add (f k h)) n
 
+module _ {A R : Type 0} (at : ℕ → R) (none : R) (p : ℕ → A → Bool) (d : A) where
+  lowest-from : (xs : List A) (b k : ℕ) → k < length xs → p (b + k) (getD xs k d) ≡ true → ((i : ℕ) → i < k → p (b + i) (getD xs i d) ≡ false) → foldFrom (λ j x r. if p j x then at j else r) none b xs ≡ at (b + k)
+  lowest-from [] b k h t f = absurd (not-suc-le-zero h)
+  lowest-from (x ∷ xs) b zero h t f = rw add-zero (if-true (p b x) _ _ (rw add-zero at t))
+  lowest-from (x ∷ xs) b (suc k) h t f =
+      if-false (p b x) _ _ (rw add-zero at (f zero (omega arith)))
+      ∙ (rw (add-suc b k, ← suc-add b k) (lowest-from xs (suc b) k (le-of-suc-le-suc h) (rw (suc-add b k, ← add-suc b k) t) (λ i g. rw (suc-add b i, ← add-suc b i) (f (suc i) (suc-le-suc g)))))
+
+  -- what passes, and nothing before it, is found
+  pub find-lowest : (xs : List A) (k : ℕ) → k < length xs → p k (getD xs k d) ≡ true → ((i : ℕ) → i < k → p i (getD xs i d) ≡ false) → find at none p xs ≡ at k
+  find-lowest xs k h t f = rw zero-add at (lowest-from xs 0 k h (rw zero-add t) (λ i g. rw zero-add (f i g)))
+
 -- the length of a struct's field that is an array of structs: what owning the struct tells is of the elements taken apart
 pub sized-field : (A B : Type 0) (f : A → B) (xs : List A) (n : ℕ) → length (map f xs) ≡ n → length xs ≡ n
 sized-field A B f xs n e = sym (length-map xs f) ∙ e

@@ -15,6 +15,10 @@ use Rattle.arrays.specs.Base.{if_then_else_, bit}
 use Rattle.arrays.specs.Arrays.{foldFrom, find, wordOf}
 use Rattle.arrays.proofs.Loops.{bit-few, unroll}
 
+-- the word of the elements, their indices counted from k
+abbrev wordFrom : {A : Type 0} → (ℕ → A → Bool) → ℕ → List A → ℕ
+wordFrom p = foldFrom (λ k x r. 2 * r + bit (p k x)) 0
+
 -- ---- the lowest set bit
 
 -- a word is 0 where its lowest digit is not set and the rest is 0
@@ -36,9 +40,6 @@ trail-step false m r =
     rw (low, high)
 
 module _ {A R : Type 0} (at : ℕ → R) (none : R) (p : ℕ → A → Bool) where
-  abbrev wordFrom : ℕ → List A → ℕ
-  wordFrom = foldFrom (λ k x r. 2 * r + bit (p k x)) 0
-
   abbrev findFrom : ℕ → List A → R
   findFrom = foldFrom (λ k x r. if p k x then at k else r) none
 
@@ -49,11 +50,11 @@ module _ {A R : Type 0} (at : ℕ → R) (none : R) (p : ℕ → A → Bool) whe
   low-step false b t none-left rest e = rw (add-suc b t, ← suc-add b t) e
 
   -- from any element on
-  low-from : (xs : List A) (b m : ℕ) → length xs ≤ m → findFrom b xs ≡ if eqb (wordFrom b xs) 0 then none else at (b + trailingZeros m (wordFrom b xs))
+  low-from : (xs : List A) (b m : ℕ) → length xs ≤ m → findFrom b xs ≡ if eqb (wordFrom p b xs) 0 then none else at (b + trailingZeros m (wordFrom p b xs))
   low-from [] b m h = refl
   low-from (x ∷ xs) b zero h = absurd (not-suc-le-zero h)
   low-from (x ∷ xs) b (suc m) h =
-      let w = wordFrom (suc b) xs in
+      let w = wordFrom p (suc b) xs in
       rw (zero-step (p b x) w, trail-step (p b x) m w) (low-step (p b x) b (trailingZeros m w) (eqb w 0) _ (low-from xs (suc b) m (le-of-suc-le-suc h)))
 
   -- the trailing zeros of a word that is not 0, in a width m of digits, tell the lowest index that passes; where it is 0 none does
@@ -66,20 +67,20 @@ module _ {A R : Type 0} (at : ℕ → R) (none : R) (p : ℕ → A → Bool) whe
 pub record Worded {A : Type 0} (p : ℕ → A → Bool) (n : ℕ) (xs : List A) (i w : ℕ) : Type 0 where
   pub within : i ≤ n
   pub sized : length xs ≡ n
-  pub made : w ≡ foldFrom (λ k x r. 2 * r + bit (p k x)) 0 i (drop i xs)
+  pub made : w ≡ wordFrom p i (drop i xs)
 
 double : (m : ℕ) → 2 ^ suc m ≡ 2 * 2 ^ m
 double m = omega (arith, pow-suc 2 m)
 
 -- a word has a digit for each element
-word-below : {A : Type 0} (p : ℕ → A → Bool) (xs : List A) (b : ℕ) → foldFrom (λ k x r. 2 * r + bit (p k x)) 0 b xs < 2 ^ length xs
+word-below : {A : Type 0} (p : ℕ → A → Bool) (xs : List A) (b : ℕ) → wordFrom p b xs < 2 ^ length xs
 word-below p [] b = omega arith
 word-below p (x ∷ xs) b = omega (arith, double (length xs), word-below p xs (suc b), bit-few (p b x))
 
 module _ {A : Type 0} {p : ℕ → A → Bool} {n : ℕ} {xs : List A} where
   -- no bit is there yet
   pub word-starts : length xs ≡ n → Worded p n xs n 0
-  word-starts h = record { within = omega arith; sized = h; made = ap (λ (l : List A). foldFrom (λ k x r. 2 * r + bit (p k x)) 0 n l) (sym (drop-of-length-le xs {i = n} (omega arith))) }
+  word-starts h = record { within = omega arith; sized = h; made = ap (wordFrom p n) (sym (drop-of-length-le xs {i = n} (omega arith))) }
 
   -- one more, downward
   pub word-more : {i w : ℕ} → Worded p n xs i w → 0 < i → (d : A) {b : Bool} → b ≡ p (i - 1) (getD xs (i - 1) d) → Worded p n xs (i - 1) (2 * w + bit b)

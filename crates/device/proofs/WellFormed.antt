@@ -10,7 +10,7 @@ use lib.Dec.{lit≤, eqb, ltb}
 use lib.ListN.{length, getD, length-replicate, getD-replicate, List·getD-eq-default}
 use Rattle.arrays.specs.Base.{if_then_else_}
 use Rattle.arrays.specs.Arrays.{each, all, count}
-use Rattle.arrays.proofs.Base.{cases, both, clash, if-elim, if-map, and-left, and-right, and-both, each-holds, or-other, or-of, or-then, then-or, or-if, same-truth}
+use Rattle.arrays.proofs.Base.{cases, both, clash, not-zero, if-elim, if-map, and-left, and-right, and-both, each-holds, or-other, or-of, or-then, then-or, or-if, same-truth}
 use Rattle.arrays.proofs.Counting.{count-none, count-one, count-same}
 use Rattle.arrays.proofs.Laws.{each-at, each-of}
 use Rattle.wire.specs.Buffers.{allZero}
@@ -172,18 +172,13 @@ local-owner nexuses place set g h u =
     let p : eqb place 0 ≡ false = ne-eqb place 0 (λ z. omega arith) in
     eqb-true _ _ (or-other (empty set) _ (rw p at g) (not-true _ u))
 
--- a number that is not 0 is above it
-not-zero : (n : ℕ) → eqb n 0 ≡ false → 0 < n
-not-zero zero f = clash refl f
-not-zero (suc n) f = omega arith
-
 -- and a place whose owner is LOCAL where it must be passes
 pub owner-local : (nexuses : List Nexus) (place : ℕ) (set : Set) → (0 < place → used set ≡ true → getD nexuses (set .owner) newNexus .scope ≡ localScope) → ownerIsLocal nexuses place set ≡ true
 unfolding ownerIsLocal
 owner-local nexuses place set f =
     cases (eqb place 0)
     (λ e. simp e)
-    (λ e. rw e (or-of (empty set) _ (λ z. eq-eqb _ _ (f (not-zero place e) (ap not z)))))
+    (λ e. rw e (or-of (empty set) _ (λ z. eq-eqb _ _ (f (not-zero place (ap not e)) (ap not z)))))
 
 -- ---- the record
 

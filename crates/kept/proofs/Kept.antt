@@ -5,13 +5,13 @@ use mathlib.Core.Path.{_≡_, refl, sym, ap, subst, _∙_}
 use mathlib.Core.Bool.{Bool, true, false, not}
 use mathlib.Core.List.{List, [], _∷_}
 use native.Mathlib.Omega.{arith}
-use borrow.Author.Tests.{eqb-true, eqb-false, eq-eqb, ltb-true, ltb-false, lt-leb, not-true}
+use borrow.Author.Tests.{eqb-true, eqb-false, eq-eqb, ltb-true, ltb-false, lt-leb}
 use lib.Dec.{eqb, ltb, leb}
 use lib.ListN.{length, getD, set, drop, length-set, List·getD-eq-default}
 use lib.Seq.{sets, set-out, drop-drop}
 use Rattle.arrays.specs.Base.{bit}
 use Rattle.arrays.specs.Arrays.{mapFrom, count, find}
-use Rattle.arrays.proofs.Base.{cases, clash, and-left, and-right, if-elim, same-truth}
+use Rattle.arrays.proofs.Base.{cases, clash, not-zero, and-left, and-right, if-elim, same-truth}
 use Rattle.arrays.proofs.Laws.{find-by, length-mapFrom, getD-mapFrom, getD-set-by, drop-sets}
 use Rattle.wire.specs.Buffers.{allZero}
 use Rattle.wire.proofs.Zeros.{all-zero-rest}
@@ -182,10 +182,6 @@ abbrev pub RoomFit : State → ℕ → Room → Type 0
 RoomFit s n (Free place) = Vacant s n place
 RoomFit s n (Evicting place) = (Vacant s n place) × (held n s ≡ 0)
 RoomFit s n NoRoom = Unit
-
--- a place other than 0 comes after it
-pub not-zero : (k : ℕ) → not (eqb k 0) ≡ true → 0 < k
-not-zero k e = let z : k ≡ 0 → ⊥ = eqb-false k 0 (not-true _ e) in omega (arith, z)
 
 module _ (s : State) (w : wellFormed s ≡ true) (n : ℕ) where
   -- where the nexus owns none, the lowest empty place, else the lowest whose owner has lock 0

@@ -1,11 +1,11 @@
 -- Document 02, request 4, by computing: each of the four places for LOCAL sets empty or taken, its owner locked or not, in all 2 ^ 8
 -- mixtures.
-use Prim.Native.Nat.{ℕ, _+_, _*_, _/_, _%_, _^_}
+use Prim.Native.Nat.{ℕ, _+_, _-_, _*_, _/_, _%_, _^_}
 use mathlib.Core.Path.{_≡_, refl}
-use mathlib.Core.Bool.{Bool, false, not, _&&_}
+use mathlib.Core.Bool.{Bool, false, _&&_}
 use mathlib.Core.List.{List, [], _∷_, map}
 use lib.Count.{trailingZeros}
-use lib.Dec.{eqb}
+use lib.Dec.{leb, eqb}
 use lib.ListN.{replicate}
 use Rattle.arrays.specs.Base.{if_then_else_}
 use Rattle.arrays.specs.Arrays.{mapFrom, find, count}
@@ -26,13 +26,13 @@ ofEach f = mapFrom (λ mixture (x : ℕ). f mixture) 0 (replicate (2 ^ 8) 0)
 abbrev digit : ℕ → ℕ → Bool
 digit mixture k = eqb (mixture / 2 ^ k % 2) 1
 
--- digits 0 to 3 tell which of places 1 to 4 is taken, digits 4 to 7 which of their owners, nexuses 1 to 4, is locked; place 0 is empty,
--- and its owner, nexus 0, is not locked
+-- digits 0 to 3 tell which of places 1 to 4 is taken, digits 4 to 7 which of their owners, nexuses 8, 7, 6 and 5, is locked; place 0 is
+-- empty, and no other nexus is locked
 abbrev mixed : ℕ → State
 mixed mixture =
     let s = powerOn 16 5 in
-    withSets (mapFrom (λ place set. established place (if digit (2 * mixture) place then localScope else publicScope) 0 noFields) 0 (s .sets))
-    (withNexuses (mapFrom (λ n nexus. withLock (not (eqb n 0) && digit (2 * mixture) (4 + n)) nexus) 0 (s .nexuses)) s)
+    withSets (mapFrom (λ place set. established (9 - place) (if digit (2 * mixture) place then localScope else publicScope) 0 noFields) 0 (s .sets))
+    (withNexuses (mapFrom (λ n nexus. withLock (leb 5 n && leb n 8 && digit mixture (12 - n)) nexus) 0 (s .nexuses)) s)
 
 -- the room by the words, and by a search
 abbrev byWords : State → Room

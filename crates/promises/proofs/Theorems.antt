@@ -20,8 +20,11 @@ pub use Rattle.page.proofs.Lowest.{wrong-is-lowest, done-breaks-none, fifth-bre
 pub use Rattle.page.proofs.Byte5.{byte-5-due, byte-5-told}
 -- All its pairs, and the lab's page, from their bytes.
 pub use Rattle.page.proofs.CeemTable.{pairs-computed, lab-computed}
--- Where none of answers 1 to 6 is due, a page's own check decides, and then check 10; so request 2 holds of every record and nexus.
-pub use Rattle.drive.proofs.Sending.{page-decides, ceem-refused}
+-- Where none of answers 1 to 6 is due, a page's own check decides, and then check 10; so request 2 holds of every record and nexus. A LOCAL
+-- page that makes a set, and that its own check takes, is answered 10 where there is no room for it, else 0.
+pub use Rattle.drive.proofs.Sending.{page-decides, ceem-refused, place-decides}
+-- Over every record and nexus: its present place, else the lowest empty one, else the lowest whose owner has lock 0, else none.
+pub use Rattle.places.proofs.Finding.{room-due}
 -- The same of the status reader: the faulty byte of answer 8 is the lowest at which a rule of the page breaks, and of a page that is read
 -- none breaks.
 pub use Rattle.status.proofs.Lowest.{status-lowest}

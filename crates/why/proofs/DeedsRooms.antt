@@ -8,7 +8,7 @@ use borrow.Author.Tests.{eqb-true, ltb-true, ltb-false, not-true}
 use lib.Dec.{eqb, ltb}
 use lib.ListN.{length}
 use Rattle.arrays.specs.Arrays.{count, find}
-use Rattle.arrays.proofs.Base.{cases, clash, both, and-left, and-right}
+use Rattle.arrays.proofs.Base.{cases, clash, not-zero, both, and-left, and-right}
 use Rattle.arrays.proofs.Laws.{find-by}
 use Rattle.arrays.proofs.Counting.{count-some, find-counted}
 use Rattle.parameters.specs.Codes.{localScope}
@@ -22,7 +22,7 @@ use Rattle.places.specs.Actions.{emptyLocal, unlockedLocal, freeAt, evictingAt,
 use Rattle.places.specs.declared.Room.{Room}
 use Rattle.places.specs.declared.Room.the-variants.{Free, Evicting, NoRoom}
 use Rattle.kept.proofs.Near.{none, held, near-of, owned}
-use Rattle.kept.proofs.Kept.{own-by, not-zero}
+use Rattle.kept.proofs.Kept.{own-by}
 
 -- a place free to take for nexus m's LOCAL set: an empty one, or its own
 pub record FreeFor (s : State) (m place : ℕ) : Type 0 where

@@ -43,8 +43,8 @@ lock-read c =
     (c .if1 .came)
 
 -- above place 0 the test is the rest of it
-above-0 : (place : ℕ) → 1 < place → (b : Bool) → b ≡ (not (eqb (place - 1) 0) && b)
-above-0 place h b = simp (ne-eqb (place - 1) 0 (λ e. omega arith))
+rest-of-test : (place : ℕ) → 1 < place → (b : Bool) → b ≡ (not (eqb (place - 1) 0) && b)
+rest-of-test place h b = simp (ne-eqb (place - 1) 0 (λ e. omega arith))
 
 pub local-words-spec : {M : Type 1} → statement M
 local-words-spec =
@@ -70,7 +70,7 @@ local-words-spec =
     (λ c.
     let loop = c .before .before .before .before .before .loop in
     let above = c .before .before .before .before .loop-test .taken in
-    (omega (arith, above), word-more (loop .inv .1) (loop .inv .0) noSet (above-0 (loop .place) above _), word-more (loop .inv .2) (loop .inv .0) noSet (ap not (lock-read (c .before)) ∙ above-0 (loop .place) above _)))
+    (omega (arith, above), word-more (loop .inv .1) (loop .inv .0) noSet (rest-of-test (loop .place) above _), word-more (loop .inv .2) (loop .inv .0) noSet (ap not (lock-read (c .before)) ∙ rest-of-test (loop .place) above _)))
     (λ c. let inv = c .before .loop .inv in omega (arith, word-fits (inv .1) (inv .0) 32 (lit≤ tt) true))
     (λ c. let inv = c .before .loop .inv in omega (arith, word-fits (inv .2) (inv .0) 32 (lit≤ tt) true))
     (λ c.
