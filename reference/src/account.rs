@@ -1,8 +1,9 @@
 //! The account a call gives of itself: which rules of 01 and 02 were at work, for the comparison's counts, its reports
 //! and the reasons of 02's request 8. It never decides an answer.
 
+use crate::answer::Broken;
 use crate::recording::BrokenByBatch;
-use crate::set_page::Broken;
+use crate::set_page::PageRule;
 use crate::status_page::StatusRule;
 use crate::well_formed::Clause;
 use std::fmt;
@@ -210,8 +211,8 @@ impl fmt::Display for ReadCell {
 #[derive(Clone, Default, PartialEq, Eq, Debug)]
 pub struct Account {
     pub clauses: Vec<Clause>,
-    pub page_rules: Vec<Broken>,
-    pub status_rules: Vec<StatusRule>,
+    pub page_rules: Vec<Broken<PageRule>>,
+    pub status_rules: Vec<Broken<StatusRule>>,
     pub batch_rules: Vec<BrokenByBatch>,
     pub steps: Vec<Step>,
     pub read_cell: Option<ReadCell>,

@@ -1,11 +1,14 @@
-//! 01, "Answer numbers", and 14 to 17 of 02, request 1: the refusals and their sense bytes. Answer 0, "done", is
-//! an `Ok`.
+//! 01, "Answer numbers", and 14 to 17 of 02, request 1: the refusals and their sense bytes; by 02, request 6, the faulty
+//! byte that answer 8 carries. Answer 0, "done", is an `Ok`.
 
 /// Sense key, ASC and ASCQ; zeros where 01 says "none".
 pub type Sense = [u8; 3];
 
 /// The sense of an answer that has none.
 pub const NO_SENSE: Sense = [0, 0, 0];
+
+/// The answer that carries the number of the faulty byte.
+pub const FIELD_WRONG: u8 = 8;
 
 /// Answers 1 to 17, in the order in which their checks run.
 #[derive(Clone, Copy, PartialEq, Eq, PartialOrd, Ord, Debug)]
@@ -17,7 +20,10 @@ pub enum Refused {
     ProtocolNot20,
     PageNotSupported,
     PageLengthWrong,
-    FieldWrong,
+    /// 02, request 6: "Answer 8 now carries the number of the faulty byte".
+    FieldWrong {
+        byte: usize,
+    },
     FifthSupplementalKey,
     NoPlaceForLocalSet,
     KeyInstanceChanged,
@@ -29,7 +35,16 @@ pub enum Refused {
     OpenedByNoKey,
 }
 
+/// A rule that a page breaks and the byte it points to; a rule about the page's length, which is answered 7, points to
+/// none.
+#[derive(Clone, Copy, PartialEq, Eq, Debug)]
+pub struct Broken<Rule> {
+    pub rule: Rule,
+    pub byte: Option<usize>,
+}
+
 impl Refused {
+    /// Each answer once, 8 with byte 0.
     pub const EVERY: [Refused; 17] = [
         Refused::RecordNotWellFormed,
         Refused::NexusAbove15,
@@ -38,7 +53,7 @@ impl Refused {
         Refused::ProtocolNot20,
         Refused::PageNotSupported,
         Refused::PageLengthWrong,
-        Refused::FieldWrong,
+        Refused::FieldWrong { byte: 0 },
         Refused::FifthSupplementalKey,
         Refused::NoPlaceForLocalSet,
         Refused::KeyInstanceChanged,
@@ -50,6 +65,24 @@ impl Refused {
         Refused::OpenedByNoKey,
     ];
 
+    /// The answer to a page that breaks these rules, if it breaks any. 01: "Checks run in number order", so 7 before 8;
+    /// 02, request 6: "the lowest-numbered byte of the page at which a rule of 01 first breaks".
+    pub fn of_page<Rule>(broken: &[Broken<Rule>]) -> Option<Refused> {
+        if broken.iter().any(|broken| broken.byte.is_none()) {
+            return Some(Refused::PageLengthWrong);
+        }
+        let lowest = broken.iter().filter_map(|broken| broken.byte).min();
+        lowest.map(|byte| Refused::FieldWrong { byte })
+    }
+
+    /// The number of the faulty byte, which answer 8 alone carries.
+    pub fn faulty_byte(self) -> Option<usize> {
+        match self {
+            Refused::FieldWrong { byte } => Some(byte),
+            _ => None,
+        }
+    }
+
     /// The column "No." of 01's table; 14 to 17 by 02, request 1.
     pub fn number(self) -> u8 {
         match self {
@@ -60,7 +93,7 @@ impl Refused {
             Refused::ProtocolNot20 => 5,
             Refused::PageNotSupported => 6,
             Refused::PageLengthWrong => 7,
-            Refused::FieldWrong => 8,
+            Refused::FieldWrong { .. } => FIELD_WRONG,
             Refused::FifthSupplementalKey => 9,
             Refused::NoPlaceForLocalSet => 10,
             Refused::KeyInstanceChanged => 11,
@@ -83,7 +116,7 @@ impl Refused {
             Refused::ChangedByVendorEvent => [0x6, 0x2A, 0x12],
             Refused::ProtocolNot20 | Refused::PageNotSupported => [0x5, 0x24, 0x00],
             Refused::PageLengthWrong => [0x5, 0x1A, 0x00],
-            Refused::FieldWrong => [0x5, 0x26, 0x00],
+            Refused::FieldWrong { .. } => [0x5, 0x26, 0x00],
             Refused::FifthSupplementalKey => [0x5, 0x55, 0x08],
             Refused::NoPlaceForLocalSet => [0x5, 0x55, 0x03],
             Refused::KeyInstanceChanged => [0x7, 0x2A, 0x13],

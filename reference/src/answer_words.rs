@@ -31,9 +31,15 @@ pub fn when(number: u8) -> &'static str {
     }
 }
 
-/// An answer on a line: its number, its meaning, and its sense where there is one.
-pub fn short(number: u8, sense: Sense) -> String {
-    let words = format!("{number} {}", when(number));
+/// What an answer means and, where it is known, the wrong field as `field_words` tells it.
+fn meaning(number: u8, field: Option<&str>) -> String {
+    let field = field.map_or(String::new(), |field| format!(": {field}"));
+    when(number).to_string() + &field
+}
+
+/// An answer on a line: its number, its meaning with the wrong field, and its sense where there is one.
+pub fn short(number: u8, sense: Sense, field: Option<&str>) -> String {
+    let words = format!("{number} {}", meaning(number, field));
     if sense == NO_SENSE {
         words
     } else {
@@ -41,9 +47,9 @@ pub fn short(number: u8, sense: Sense) -> String {
     }
 }
 
-/// An answer with its meaning, and below it its sense with SPC-4's names.
-pub fn long(number: u8, sense: Sense) -> String {
-    let words = format!("answer {number}, {}", when(number));
+/// An answer with its meaning and the wrong field, and below it its sense with SPC-4's names.
+pub fn long(number: u8, sense: Sense, field: Option<&str>) -> String {
+    let words = format!("answer {number}, {}", meaning(number, field));
     if sense == NO_SENSE {
         return words;
     }

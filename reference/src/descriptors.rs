@@ -41,8 +41,9 @@ pub struct Kads {
     pub a_kad: Kad<A_KAD_BYTES>,
 }
 
-/// Reads the list from `start` to the page's end; 01: "the last ends with the page". A list that isn't
-/// in order gives the rules its first faulty descriptor breaks, each with the number of its byte.
+/// Reads the list from `start` to the page's end; 01: "the last ends with the page". A list that isn't in order gives
+/// the rules its first faulty descriptor breaks, each with the number of its byte: where a later one would start isn't
+/// known then, and its bytes would have higher numbers anyway.
 pub fn read_list(page: &[u8], start: usize) -> Result<Kads, Vec<(DescriptorRule, usize)>> {
     let mut kads = Kads { u_kad: Kad::NONE, a_kad: Kad::NONE };
     let mut last_type = None;
@@ -63,7 +64,8 @@ pub fn read_list(page: &[u8], start: usize) -> Result<Kads, Vec<(DescriptorRule,
     Ok(kads)
 }
 
-/// 01, the paragraph "Descriptors", for the one whose type is at byte `at`.
+/// 01, the paragraph "Descriptors", for the one whose type is at byte `at`; 02, request 6: "a descriptor length to its
+/// first length byte, a descriptor cut short by the page's end to its type byte".
 fn broken_rules(page: &[u8], at: usize, last_type: Option<u8>) -> Vec<(DescriptorRule, usize)> {
     let mut broken = Vec::new();
     let left = page.len() - at;
@@ -72,12 +74,12 @@ fn broken_rules(page: &[u8], at: usize, last_type: Option<u8>) -> Vec<(Descripto
     } else if last_type.is_some_and(|last| page[at] <= last) {
         broken.push((DescriptorRule::TypesRise, at));
     }
+    if left > 1 && page[at + 1] != 0 {
+        broken.push((DescriptorRule::ZeroByte, at + 1));
+    }
     if left < HEADER_BYTES {
         broken.push((DescriptorRule::HeaderInPage, at));
         return broken;
-    }
-    if page[at + 1] != 0 {
-        broken.push((DescriptorRule::ZeroByte, at + 1));
     }
     let length = length_at(page, at);
     if page[at] == U_KAD_TYPE && !(1..=U_KAD_BYTES).contains(&length) {

@@ -1,7 +1,7 @@
-//! A second, independent account of document 01, and of requests 1 to 5, 8, 11 and 12 of document 02: the encryption
+//! A second, independent account of document 01, and of requests 1 to 6, 8, 11 and 12 of document 02: the encryption
 //! controller of a tape drive, batches of events, the replay of recorded sessions, the reasons of their writes, their
 //! claim and the salvage of damaged ones, and the programs that compare them with others on a pipe. Host tools beside it:
-//! recordings as text, and the page of a claim.
+//! recordings as text, the page of a claim, and the faulty byte in words and in sense data.
 
 #![forbid(unsafe_code)]
 
@@ -15,6 +15,7 @@ pub mod comparison;
 pub mod controller;
 pub mod descriptors;
 pub mod digits;
+pub mod field_words;
 mod flags;
 pub mod hex;
 pub mod names;
@@ -26,6 +27,7 @@ pub mod report;
 pub mod response_pages;
 pub mod salvage;
 pub mod script;
+pub mod sense_data;
 pub mod set_page;
 pub mod sizes;
 pub mod status_page;

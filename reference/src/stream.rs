@@ -1,7 +1,7 @@
-//! The stream of design.md, "The second account, and the drive on a pipe": commands and replies.
+//! The stream of docs/CONSOLE.md: commands and replies.
 
 use crate::account::Account;
-use crate::answer::{Refused, Sense, NO_SENSE};
+use crate::answer::{Refused, Sense, FIELD_WRONG, NO_SENSE};
 use crate::calls::{ReadAs, ReadBlock, Written, WrittenAs};
 use crate::controller::Controller;
 use crate::record::Record;
@@ -132,9 +132,19 @@ impl Reply {
         Reply { number: 0, sense: NO_SENSE, data }
     }
 
-    /// 01: "A refused answer carries its number and sense only."
+    /// 01: "A refused answer carries its number and sense only." With answer 8, which OUT and the status reader give, the
+    /// data are "the number of the faulty byte, counted from 0 in the page"; a page of the stream has 65,535 bytes at most.
     fn refused(refused: Refused) -> Reply {
-        Reply { number: refused.number(), sense: refused.sense(), data: Vec::new() }
+        let faulty_byte = refused.faulty_byte().map(|byte| (byte as u16).to_be_bytes().to_vec());
+        Reply { number: refused.number(), sense: refused.sense(), data: faulty_byte.unwrap_or_default() }
+    }
+
+    /// The faulty byte that answer 8 tells; nothing where the reply says something else.
+    pub fn faulty_byte(&self) -> Option<usize> {
+        match (self.number, &self.data[..]) {
+            (FIELD_WRONG, &[high, low]) => Some(usize::from(u16::from_be_bytes([high, low]))),
+            _ => None,
+        }
     }
 
     /// What became of a write that is done, as `written` gives it; nothing where the reply says something else.

@@ -8,6 +8,8 @@
 mod failures;
 #[path = "support/wrong_batchers.rs"]
 mod wrong_batchers;
+#[path = "support/wrong_faulty_bytes.rs"]
+mod wrong_faulty_bytes;
 #[path = "support/wrong_places.rs"]
 mod wrong_places;
 
@@ -20,6 +22,7 @@ use std::io::{self, Write};
 use std::process::{Command as Program, ExitCode};
 use std::thread;
 use wrong_batchers::BATCH_FAULTS;
+use wrong_faulty_bytes::FAULTY_BYTE_FAULTS;
 use wrong_places::PLACE_FAULTS;
 
 /// What a fault sees and spoils: the command, the record before it, the reply, and the record after it.
@@ -65,12 +68,13 @@ const READ_FAULTS: [Fault; 5] = [
 ];
 
 /// Wrong drives around 02's request 2; the directed sessions are to find them.
-const CEEM_FAULTS: [Fault; 8] = [
+const CEEM_FAULTS: [Fault; 9] = [
     ("ceem-10b-alone", ceem_10b_alone, 2),
     ("ceem-11b-alone", ceem_11b_alone, 2),
     ("ceem-of-local-alone", ceem_of_local_alone, 2),
     ("ceem-of-public", ceem_of_public, 2),
     ("ceem-of-sdk-1", ceem_of_sdk_1, 2),
+    ("ceem-of-sdk-1-with-disable", ceem_of_sdk_1_with_disable, 2),
     ("ceem-with-raw", ceem_with_raw, 2),
     ("ceem-with-encryption-disable", ceem_with_encryption_disable, 2),
     ("held-set-not-well-formed", held_set_not_well_formed, 2),
@@ -112,13 +116,12 @@ fn unlocking_at_release(moment: &mut Moment) {
 /// A PUBLIC page's reserved bytes are checked.
 fn checking_public_reserved(moment: &mut Moment) {
     let page = &moment.command.data;
-    if moment.command.kind == kind::OUT
-        && moment.reply.number == 0
-        && page[4] >> 5 == 0
-        && page[11..18].iter().any(|&byte| byte != 0)
-    {
-        moment.reply.number = 8;
-        moment.reply.sense = [5, 0x26, 0];
+    if moment.command.kind != kind::OUT || moment.reply.number != 0 || page[4] >> 5 != 0 {
+        return;
+    }
+    if let Some(byte) = (11..18).find(|&byte| page[byte] != 0) {
+        refuse(moment, 8, [5, 0x26, 0]);
+        tell(moment, byte);
     }
 }
 
@@ -223,7 +226,7 @@ fn rdmc_under_external(moment: &mut Moment) {
     let page = &moment.command.data;
     let set_page = moment.command.kind == kind::OUT && moment.reply.number == 0 && page[4] >> 5 != 0;
     if set_page && page[5] & 0x38 == 0x10 && page[6] == 1 {
-        refuse_page(moment);
+        refuse_page(moment, 5);
     }
 }
 
@@ -312,11 +315,18 @@ fn mixed_refuses_plain(moment: &mut Moment) {
     }
 }
 
-/// The reply becomes a page's refusal, which registers its sender.
-fn refuse_page(moment: &mut Moment) {
+/// The reply becomes a page's refusal for a byte, which registers its sender. A lower byte that is told already stays.
+fn refuse_page(moment: &mut Moment, byte: usize) {
+    let lowest = moment.reply.faulty_byte().map_or(byte, |told| told.min(byte));
     *moment.after = moment.before.clone();
     moment.after.nexuses[usize::from(moment.command.nexus)].registered = true;
     refuse(moment, 8, [5, 0x26, 0]);
+    tell(moment, lowest);
+}
+
+/// The reply tells a faulty byte.
+fn tell(moment: &mut Moment, byte: usize) {
+    moment.reply.data = (byte as u16).to_be_bytes().to_vec();
 }
 
 /// A Set page with CEEM 10b or 11b.
@@ -380,7 +390,7 @@ fn ceem_of_local_alone(moment: &mut Moment) {
 /// The request's rule refuses more pages.
 fn refuse_too(moment: &mut Moment, refused: impl Fn(&CeemPage) -> bool) {
     if ceem_page_at_hand(moment).is_some_and(|page| refused(&page)) {
-        refuse_page(moment);
+        refuse_page(moment, 5);
     }
 }
 
@@ -389,10 +399,16 @@ fn ceem_of_public(moment: &mut Moment) {
     refuse_too(moment, |page| page.scope == scope::PUBLIC && page.decryption == decryption::DISABLE);
 }
 
-/// Supplemental keys are refused too, in every mode. (With DISABLE alone it couldn't be seen: with SDK 1 that mode is
-/// answered 8 anyway.)
+/// Supplemental keys are refused too, in every mode.
 fn ceem_of_sdk_1(moment: &mut Moment) {
     refuse_too(moment, |page| page.scope != scope::PUBLIC && page.sdk);
+}
+
+/// The rule is asked of supplemental keys as it is. With SDK 1 DISABLE is answered 8 anyway, but for byte 7.
+fn ceem_of_sdk_1_with_disable(moment: &mut Moment) {
+    refuse_too(moment, |page| {
+        page.scope != scope::PUBLIC && page.sdk && page.decryption == decryption::DISABLE
+    });
 }
 
 /// RAW is taken for DISABLE.
@@ -454,7 +470,8 @@ fn commands_in(report: &str) -> Option<usize> {
 
 /// The wrong drives that the directed sessions alone are to find.
 fn of_requests() -> impl Iterator<Item = &'static Fault> {
-    READ_FAULTS.iter().chain(&CEEM_FAULTS).chain(&PLACE_FAULTS).chain(&BATCH_FAULTS)
+    let faults = READ_FAULTS.iter().chain(&CEEM_FAULTS).chain(&PLACE_FAULTS).chain(&BATCH_FAULTS);
+    faults.chain(&FAULTY_BYTE_FAULTS)
 }
 
 /// Every test; the texts of those that failed.

@@ -2,9 +2,7 @@
 
 #![forbid(unsafe_code)]
 
-#[path = "../src/bin/support/vector_file.rs"]
-mod vector_file;
-
+use reference::comparison::vector_file;
 use reference::stream::Drive;
 use std::process::{Command as Program, Output};
 
@@ -38,8 +36,11 @@ fn the_program_ends_with_its_count() {
 #[test]
 fn a_wrong_expectation_is_found() {
     let changes = [
-        ("\nanswer: 7", "\nanswer: 8"),
-        ("\nanswer: 8", "\nanswer: 7"),
+        ("\nanswer: 7", "\nanswer: 8\nbyte: 0"),
+        ("\nanswer: 8\nbyte: 54", "\nanswer: 7"),
+        ("\nbyte: 54", "\nbyte: 55"),
+        ("\nbyte: 8", "\nbyte: 0"),
+        ("\nbyte: 4\n", "\nbyte: 1024\n"),
         (", CEEM 1,", ", CEEM 0,"),
         (", CEEM 2,", ", CEEM 3,"),
         (", RDMD 1,", ", RDMD 0,"),
@@ -57,6 +58,19 @@ fn a_wrong_expectation_is_found() {
             vector.try_on(|command| Ok(drive.answer(command))) != Ok(None)
         });
         assert_eq!(different.count(), 1, "{right:?} changed to {wrong:?}");
+    }
+}
+
+#[test]
+fn a_byte_stands_exactly_with_answer_8() {
+    for (right, wrong, fault) in [
+        ("\nbyte: 54", "", "no \"byte\""),
+        ("\nbyte: 54", "\nbyte: 54h", "a byte that is no number"),
+        ("\nanswer: 7", "\nanswer: 7\nbyte: 2", "a byte with an answer other than 8"),
+        ("\nanswer: 0", "\nanswer: 0\nbyte: 0", "a byte with an answer other than 8"),
+    ] {
+        let told = vector_file::read(&text().replacen(right, wrong, 1)).expect_err("the file isn't in order");
+        assert!(told.ends_with(fault), "{told}");
     }
 }
 

@@ -1,4 +1,5 @@
-// Every answer of document 01, "Answer numbers", and of document 02: its number, its sense bytes and what a refusal changes in the record.
+// Every answer of document 01, "Answer numbers", and of document 02: its number, its sense bytes, what a refusal changes in the record and, of 8, the
+// faulty byte.
 
 pub enum Answer {
     Done,
@@ -9,7 +10,8 @@ pub enum Answer {
     ProtocolNotSupported,
     PageNotSupported,
     PageLengthWrong,
-    FieldWrong,
+    // Document 02, request 6: with the number of the faulty byte.
+    FieldWrong(usize),
     FifthSupplementalKey,
     NoPlaceForLocal,
     KeyInstanceChanged,
@@ -49,26 +51,31 @@ pub struct Row {
     pub number: u8,
     pub sense: Sense,
     pub change: Change,
+    pub faultyByte: usize,
 }
 
-// Document 01's table, and the rows that document 02 adds: number; sense key, ASC and ASCQ (zeros where there is none); record change.
+// Document 01's table, and the rows that document 02 adds: number; sense key, ASC and ASCQ (zeros where there is none); record change; the faulty byte, which answer 8
+// alone has, and which its row takes from the answer.
 impl Row {
     pub const DONE: Row = Row {
         number: 0,
         sense: Sense::NONE,
         change: Change::Unchanged,
+        faultyByte: 0,
     };
 
     pub const NOT_WELL_FORMED: Row = Row {
         number: 1,
         sense: Sense::NONE,
         change: Change::Unchanged,
+        faultyByte: 0,
     };
 
     pub const NEXUS_ABOVE: Row = Row {
         number: 2,
         sense: Sense::NONE,
         change: Change::Unchanged,
+        faultyByte: 0,
     };
 
     pub const CHANGED_BY_ANOTHER_NEXUS: Row = Row {
@@ -79,6 +86,7 @@ impl Row {
             ascq: 0x11,
         },
         change: Change::AnotherCleared,
+        faultyByte: 0,
     };
 
     pub const CHANGED_BY_VENDOR_EVENT: Row = Row {
@@ -89,6 +97,7 @@ impl Row {
             ascq: 0x12,
         },
         change: Change::VendorCleared,
+        faultyByte: 0,
     };
 
     pub const PROTOCOL_NOT_SUPPORTED: Row = Row {
@@ -99,6 +108,7 @@ impl Row {
             ascq: 0,
         },
         change: Change::Unchanged,
+        faultyByte: 0,
     };
 
     pub const PAGE_NOT_SUPPORTED: Row = Row {
@@ -109,6 +119,7 @@ impl Row {
             ascq: 0,
         },
         change: Change::Registered,
+        faultyByte: 0,
     };
 
     pub const PAGE_LENGTH_WRONG: Row = Row {
@@ -119,6 +130,7 @@ impl Row {
             ascq: 0,
         },
         change: Change::Registered,
+        faultyByte: 0,
     };
 
     pub const FIELD_WRONG: Row = Row {
@@ -129,6 +141,7 @@ impl Row {
             ascq: 0,
         },
         change: Change::Registered,
+        faultyByte: 0,
     };
 
     pub const FIFTH_SUPPLEMENTAL_KEY: Row = Row {
@@ -139,6 +152,7 @@ impl Row {
             ascq: 0x08,
         },
         change: Change::Registered,
+        faultyByte: 0,
     };
 
     pub const NO_PLACE_FOR_LOCAL: Row = Row {
@@ -149,6 +163,7 @@ impl Row {
             ascq: 0x03,
         },
         change: Change::Registered,
+        faultyByte: 0,
     };
 
     pub const KEY_INSTANCE_CHANGED: Row = Row {
@@ -159,6 +174,7 @@ impl Row {
             ascq: 0x13,
         },
         change: Change::Unchanged,
+        faultyByte: 0,
     };
 
     pub const PARAMETERS_NOT_USABLE: Row = Row {
@@ -169,12 +185,14 @@ impl Row {
             ascq: 0x07,
         },
         change: Change::Unchanged,
+        faultyByte: 0,
     };
 
     pub const PLACE_ABOVE: Row = Row {
         number: 13,
         sense: Sense::NONE,
         change: Change::Unchanged,
+        faultyByte: 0,
     };
 
     // Document 02, request 1.
@@ -182,6 +200,7 @@ impl Row {
         number: 14,
         sense: Sense::NONE,
         change: Change::Unchanged,
+        faultyByte: 0,
     };
 
     pub const UNABLE_TO_DECRYPT: Row = Row {
@@ -192,6 +211,7 @@ impl Row {
             ascq: 0x01,
         },
         change: Change::Unchanged,
+        faultyByte: 0,
     };
 
     pub const NOT_ENCRYPTED: Row = Row {
@@ -202,6 +222,7 @@ impl Row {
             ascq: 0x02,
         },
         change: Change::Unchanged,
+        faultyByte: 0,
     };
 
     pub const KEY_INCORRECT: Row = Row {
@@ -212,5 +233,6 @@ impl Row {
             ascq: 0x03,
         },
         change: Change::Unchanged,
+        faultyByte: 0,
     };
 }

@@ -1,9 +1,18 @@
-// Every answer of document 01, "Answer numbers": its number, its sense bytes and what a refusal changes in the record.
+// Every answer of document 01, "Answer numbers": its number, its sense bytes, what a refusal changes in the record and the faulty byte.
 use answer::Answer;
 use answer::Row;
 use answer::Sense;
 ghost use mathlib.Core.Path.{_≡_};
-ghost use Rattle.answer.specs.Answers.{rowOf, senseOf, isDone};
+ghost use Rattle.answer.specs.Answers.{carrying, rowOf, senseOf, isDone};
+
+// A row with the number of the faulty byte.
+fn carrying(byte: usize, row: Row) -> Row
+    ensures { λ r. ⌜ r ≡ carrying byte row ⌝ }
+{
+    let mut carries = row;
+    carries.faultyByte = byte;
+    carries
+}
 
 // The answer's row in document 01's table.
 pub fn row_of(answer: Answer) -> Row
@@ -18,7 +27,7 @@ pub fn row_of(answer: Answer) -> Row
         Answer::ProtocolNotSupported => Row::PROTOCOL_NOT_SUPPORTED,
         Answer::PageNotSupported => Row::PAGE_NOT_SUPPORTED,
         Answer::PageLengthWrong => Row::PAGE_LENGTH_WRONG,
-        Answer::FieldWrong => Row::FIELD_WRONG,
+        Answer::FieldWrong(byte) => carrying(byte, Row::FIELD_WRONG),
         Answer::FifthSupplementalKey => Row::FIFTH_SUPPLEMENTAL_KEY,
         Answer::NoPlaceForLocal => Row::NO_PLACE_FOR_LOCAL,
         Answer::KeyInstanceChanged => Row::KEY_INSTANCE_CHANGED,

@@ -1,6 +1,6 @@
 -- What every command orders, and what every call and batch of the stream is replied.
 -- Assumes nothing.
-use Prim.Native.Nat.{ℕ, _+_, _/_, _%_, _<_}
+use Prim.Native.Nat.{ℕ, _+_, _/_, _%_, _^_, _<_}
 use mathlib.Core.Path.{_≡_, refl, ap, ap₂, _∙_}
 use mathlib.Core.Bool.{true}
 use mathlib.Core.List.{List, [], _∷_, _++_}
@@ -9,17 +9,19 @@ use borrow.Author.Tests.{le-leb, lt-leb, ne-eqb}
 use lib.ListN.{length, take, drop, length-append}
 use lib.Seq.{take-at, drop-at}
 use Rattle.arrays.proofs.Base.{if-true, if-false}
-use Rattle.wire.specs.Numbers.{byteAt, word, two}
+use Rattle.wire.specs.Numbers.{byteAt, word, wordAt, two}
 use Rattle.wire.proofs.Numbers.{word-two}
 use Rattle.device.specs.Record.{State}
+use Rattle.status.proofs.Lowest.{status-judged}
+use Rattle.drive.proofs.Pointing.{page-points}
 use Rattle.calls.specs.Asking.{callOf}
 use Rattle.calls.specs.declared.Asked.{Asked}
 use Rattle.calls.specs.declared.Asked.the-variants.{PowerOn, In, Out, Write, Read, UnitReset, Happen}
 use Rattle.recording.specs.Verdicts.{verdictNumber}
 use Rattle.batch.specs.Batches.{batchVerdict, batchRecord, batchBuffer}
 use Rattle.command.specs.Requests.{requestOf, callOrder, toolOrder, orderOf, batchEvents, batchPages, holdsEvents}
-use Rattle.command.specs.Replies.{Replied, unknownReply, inReply, writeReply, readReply, askedReply, batchReply}
-use Rattle.command.specs.Ordered.{Ordered, Answers, Data, AnswersBatch}
+use Rattle.command.specs.Replies.{Replied, pointer, unknownReply, inReply, outReply, writeReply, readReply, statusReply, askedReply, batchReply}
+use Rattle.command.specs.Ordered.{Ordered, Answers, Points, Data, ReadsStatus, AnswersBatch}
 use Rattle.command.specs.declared.Request.{Request}
 
 -- The 8 bytes of a command, whatever they are; byte 5, the port, isn't read.
@@ -44,9 +46,22 @@ ordered r = record {
   give = λ e. rw e refl;
 }
 
+-- a byte that fits two is told by them
+points : (bytes : List ℕ) (b : ℕ) → bytes ≡ two b → b < 2 ^ 16 → Points b bytes
+points bytes b e l = (e, ap (λ (x : List ℕ). wordAt x 0) e ∙ word-two b l)
+
+-- What the status reader is replied.
+pub status-replied : (s : State) (page : List ℕ) → ReadsStatus s page
+unfolding statusReply
+status-replied s page = record {
+  read = λ e. rw e refl;
+  pointed = λ b e. points _ b (rw e refl) (status-judged page .fits b e);
+  short = λ e. rw e refl;
+}
+
 -- What a call of the stream is replied, whoever sends it and with whatever page and lent buffer.
 pub call-replied : (s : State) (asked : Asked) (page lent : List ℕ) → Answers s (callOf asked page) (askedReply s asked page lent)
-unfolding askedReply inReply writeReply readReply
+unfolding askedReply inReply outReply writeReply readReply
 call-replied s PowerOn page lent = record { number = refl; sense = refl; left = refl }
 call-replied s (In command) page lent = record { number = refl; sense = refl; left = refl }
 call-replied s (Out command) page lent = record { number = refl; sense = refl; left = refl }
@@ -57,14 +72,15 @@ call-replied s (Happen event) page lent = record { number = refl; sense = refl; 
 
 -- And its data.
 pub data-replied : (s : State) (page lent : List ℕ) → Data s page lent
-unfolding askedReply inReply writeReply readReply
+unfolding askedReply inReply outReply writeReply readReply
 data-replied s page lent = record {
   given = λ c. refl;
   written = λ n supported t. simp t;
   unwritten = λ n supported f. simp f;
   read = λ n block t. simp t;
   unread = λ n block f. simp f;
-  sent = λ c. refl;
+  pointed = λ c b e. points _ b (ap pointer e) (page-points s c page .fits b e);
+  sent = λ c f. simp f;
   happened = λ event. refl;
   reset = refl;
   powered = refl;

@@ -2,7 +2,7 @@
 use Prim.Native.Nat.{ℕ}
 use mathlib.Core.List.{List, [], _∷_, _++_}
 use lib.Dec.{T}
-use lib.ListN.{take, drop, replicate}
+use lib.ListN.{take, drop, set, replicate}
 use Rattle.kad.specs.Reading.{descriptorRules, listed}
 use Rattle.kad.specs.Writing.{descriptors}
 use Rattle.page.specs.Fields.{listOf}
@@ -23,7 +23,7 @@ use Rattle.drive.specs.Checks.{checks, answer}
 use Rattle.drive.specs.Effects.{effectBy}
 use Rattle.drive.specs.After.{actionsOf, changedBy, carriedOut}
 use Rattle.drive.specs.Outcomes.{responsePage}
-use Rattle.drive.specs.Claims.{page, pageK, locked, keyless}
+use Rattle.drive.specs.Claims.{page, pageK, locked, withUKad, keyless}
 use Rattle.wire.specs.Numbers.{two}
 use Rattle.wire.specs.Parts.{joined, parts}
 use Rattle.record.specs.Bytes.{kadsBytes, setBytes, nexusBytes, recordBytes}
@@ -36,7 +36,7 @@ use Rattle.recording.specs.Entries.{entryOf, sound, call}
 use Rattle.recording.specs.Claims.{event}
 use Rattle.session.specs.Answers.{answersFrom}
 use Rattle.command.specs.Requests.{callOrder, toolOrder, orderOf}
-use Rattle.command.specs.Replies.{inReply, writeReply, readReply, statusReply, takeReply, giveReply, askedReply, batchReply, obeyed}
+use Rattle.command.specs.Replies.{inReply, outReply, writeReply, readReply, statusReply, takeReply, giveReply, askedReply, batchReply, obeyed}
 use Rattle.command.specs.Claims.{Exchange, exchange, converse}
 
 -- a reply without data: number, sense
@@ -45,6 +45,10 @@ plain number key asc ascq = number ∷ key ∷ asc ∷ ascq ∷ 0x00 ∷ 0x00 �
 
 abbrev done : List ℕ
 done = plain 0x00 0x00 0x00 0x00
+
+-- answer 8, and the number of the faulty byte
+abbrev wrongAt : ℕ → List ℕ
+wrongAt byte = 0x08 ∷ 0x05 ∷ 0x26 ∷ 0x00 ∷ 0x00 ∷ 0x02 ∷ two byte
 
 abbrev unknown : List ℕ
 unknown = plain 0xFF 0x00 0x00 0x00
@@ -80,12 +84,14 @@ session =
     exchange (0x00 ∷ 0x00 ∷ 0x00 ∷ 0x00 ∷ 0x00 ∷ 0x00 ∷ 0x00 ∷ 0x00 ∷ []) [] done
     ∷ exchange (0x01 ∷ 0x03 ∷ 0x00 ∷ 0x20 ∷ 0x20 ∷ 0x00 ∷ 0x00 ∷ 0x1E ∷ []) []
     (0x00 ∷ 0x00 ∷ 0x00 ∷ 0x00 ∷ 0x00 ∷ 0x20 ∷ 0x00 ∷ 0x18 ∷ 0x00 ∷ 0x20 ∷ 0x00 ∷ 0x14 ∷ (replicate 20 0x00 ++ replicate 6 0xA5))
-    -- page K cut, page K, its status, and that read
+    -- page K cut, page K with key length 31, page K, its status, and that read, and read with byte 23 not zero
     ∷ exchange (0x02 ∷ 0x03 ∷ 0x00 ∷ 0x10 ∷ 0x20 ∷ 0x00 ∷ 0x00 ∷ 0x33 ∷ []) (take 51 (pageK locked)) (plain 0x07 0x05 0x1A 0x00)
+    ∷ exchange (0x02 ∷ 0x03 ∷ 0x00 ∷ 0x10 ∷ 0x20 ∷ 0x00 ∷ 0x00 ∷ 0x34 ∷ []) (set (pageK locked) 19 0x1F) (wrongAt 0x12)
     ∷ exchange (0x02 ∷ 0x03 ∷ 0x00 ∷ 0x10 ∷ 0x20 ∷ 0x00 ∷ 0x00 ∷ 0x34 ∷ []) (pageK locked) done
     ∷ exchange (0x01 ∷ 0x03 ∷ 0x00 ∷ 0x20 ∷ 0x20 ∷ 0x00 ∷ 0x00 ∷ 0x18 ∷ []) [] (0x00 ∷ 0x00 ∷ 0x00 ∷ 0x00 ∷ 0x00 ∷ 0x1A ∷ 0x00 ∷ 0x18 ∷ status2)
     ∷ exchange (0xFD ∷ 0x00 ∷ 0x00 ∷ 0x00 ∷ 0x00 ∷ 0x00 ∷ 0x00 ∷ 0x18 ∷ []) status2
     (0x00 ∷ 0x00 ∷ 0x00 ∷ 0x00 ∷ 0x00 ∷ 0x39 ∷ 0x01 ∷ 0x01 ∷ 0x02 ∷ 0x02 ∷ 0x01 ∷ 0x00 ∷ 0x00 ∷ 0x00 ∷ 0x01 ∷ 0x01 ∷ 0x00 ∷ replicate 46 0x00)
+    ∷ exchange (0xFD ∷ 0x00 ∷ 0x00 ∷ 0x00 ∷ 0x00 ∷ 0x00 ∷ 0x00 ∷ 0x18 ∷ []) (set status2 23 0x01) (wrongAt 0x17)
     -- writes: encrypted; refused; a flag that is neither 0 nor 1
     ∷ exchange (0x03 ∷ 0x03 ∷ 0x00 ∷ 0x01 ∷ 0x00 ∷ 0x00 ∷ 0x00 ∷ 0x00 ∷ []) [] (0x00 ∷ 0x00 ∷ 0x00 ∷ 0x00 ∷ 0x00 ∷ 0x03 ∷ 0x02 ∷ 0x01 ∷ 0x01 ∷ [])
     ∷ exchange (0x03 ∷ 0x03 ∷ 0x00 ∷ 0x00 ∷ 0x00 ∷ 0x00 ∷ 0x00 ∷ 0x00 ∷ []) [] (plain 0x0C 0x07 0x74 0x07)
@@ -114,7 +120,7 @@ session =
     ∷ []
 
 pub session-proved : T (converse (powerOn 16 5) session)
-unfolding session converse obeyed askedReply batchReply formOf entryOf sound call answersFrom runFrom inReply writeReply readReply underMode statusReply takeReply giveReply eventOf askedOf callOrder toolOrder orderOf joined parts kadsBytes setBytes nexusBytes recordBytes kadsRead fieldsRead setRead nexusRead recordRead goodBytes readStatus scopeRules fieldRules headRules listRules answer checks effectBy actionsOf changedBy carriedOut changes flagged cleared responsePage act acts releases ownPlace room pageActions senderAfter supplemented taken statusBytes setGood nexusGood ownerIsLocal wellFormed ownedPlace selected powerOn publicPage supplementalPage setPage checked openRules modeRules plainRules keyRules setRules matchRules endRules supplementalRules listOf descriptorRules listed descriptors
+unfolding session converse obeyed askedReply batchReply formOf entryOf sound call answersFrom runFrom inReply outReply writeReply readReply underMode statusReply takeReply giveReply eventOf askedOf callOrder toolOrder orderOf joined parts kadsBytes setBytes nexusBytes recordBytes kadsRead fieldsRead setRead nexusRead recordRead goodBytes readStatus scopeRules fieldRules headRules listRules answer checks effectBy actionsOf changedBy carriedOut changes flagged cleared responsePage act acts releases ownPlace room pageActions senderAfter supplemented taken statusBytes setGood nexusGood ownerIsLocal wellFormed ownedPlace selected powerOn publicPage supplementalPage setPage checked openRules modeRules plainRules keyRules setRules matchRules endRules supplementalRules listOf descriptorRules listed descriptors
 session-proved = tt
 
 -- every kind, and what the session doesn't show
@@ -156,6 +162,11 @@ further =
     -- another protocol; both bytes of a page code
     ∷ exchange (0x01 ∷ 0x07 ∷ 0x00 ∷ 0x20 ∷ 0x21 ∷ 0x00 ∷ 0x00 ∷ 0x00 ∷ []) [] (0x05 ∷ 0x05 ∷ 0x24 ∷ 0x00 ∷ 0x00 ∷ 0x02 ∷ 0x00 ∷ 0x00 ∷ [])
     ∷ exchange (0x02 ∷ 0x07 ∷ 0x01 ∷ 0x10 ∷ 0x20 ∷ 0x00 ∷ 0x00 ∷ 0x34 ∷ []) (pageK locked) (plain 0x06 0x05 0x24 0x00)
+    -- pages that are answered 8: SCOPE 3, a U-KAD of 33 bytes; and damaged status pages, of which one is cut
+    ∷ exchange (0x02 ∷ 0x07 ∷ 0x00 ∷ 0x10 ∷ 0x20 ∷ 0x00 ∷ 0x00 ∷ 0x34 ∷ []) (pageK 0x61) (wrongAt 4)
+    ∷ exchange (0x02 ∷ 0x07 ∷ 0x00 ∷ 0x10 ∷ 0x20 ∷ 0x00 ∷ 0x00 ∷ 0x59 ∷ []) (withUKad 33) (wrongAt 54)
+    ∷ exchange (0xFD ∷ 0x00 ∷ 0x00 ∷ 0x00 ∷ 0x00 ∷ 0x00 ∷ 0x00 ∷ 0x18 ∷ []) (set status2 4 0x61) (wrongAt 4)
+    ∷ exchange (0xFD ∷ 0x00 ∷ 0x00 ∷ 0x00 ∷ 0x00 ∷ 0x00 ∷ 0x00 ∷ 0x17 ∷ []) (take 23 status2) (plain 0x07 0x05 0x1A 0x00)
     -- the largest buffer
     ∷ exchange (0x01 ∷ 0x07 ∷ 0x00 ∷ 0x01 ∷ 0x20 ∷ 0x00 ∷ 0x10 ∷ 0x00 ∷ []) [] (0x00 ∷ 0x00 ∷ 0x00 ∷ 0x00 ∷ 0x10 ∷ 0x02 ∷ 0x00 ∷ 0x06 ∷ 0x00 ∷ 0x01 ∷ 0x00 ∷ 0x02 ∷ 0x00 ∷ 0x10 ∷ replicate 4090 0xA5)
     -- 256 is no flag; the kinds beside those that are known
@@ -191,7 +202,7 @@ further =
     ∷ []
 
 pub further-proved : T (converse (powerOn 16 5) further)
-unfolding further converse obeyed askedReply batchReply formOf entryOf sound call answersFrom runFrom inReply writeReply readReply underMode statusReply takeReply giveReply eventOf askedOf callOrder toolOrder orderOf joined parts kadsBytes setBytes nexusBytes recordBytes kadsRead fieldsRead setRead nexusRead recordRead goodBytes readStatus scopeRules fieldRules headRules listRules answer checks effectBy actionsOf changedBy carriedOut changes flagged cleared responsePage act acts releases ownPlace room pageActions senderAfter supplemented taken statusBytes setGood nexusGood ownerIsLocal wellFormed ownedPlace selected powerOn publicPage supplementalPage setPage checked openRules modeRules plainRules keyRules setRules matchRules endRules supplementalRules listOf descriptorRules listed descriptors
+unfolding further converse obeyed askedReply batchReply formOf entryOf sound call answersFrom runFrom inReply outReply writeReply readReply underMode statusReply takeReply giveReply eventOf askedOf callOrder toolOrder orderOf joined parts kadsBytes setBytes nexusBytes recordBytes kadsRead fieldsRead setRead nexusRead recordRead goodBytes readStatus scopeRules fieldRules headRules listRules answer checks effectBy actionsOf changedBy carriedOut changes flagged cleared responsePage act acts releases ownPlace room pageActions senderAfter supplemented taken statusBytes setGood nexusGood ownerIsLocal wellFormed ownedPlace selected powerOn publicPage supplementalPage setPage checked openRules modeRules plainRules keyRules setRules matchRules endRules supplementalRules listOf descriptorRules listed descriptors
 further-proved = tt
 
 -- on a drive of 2 nexuses and 2 places: the counter at 2, place 1 empty with number 2, nexus 1 locked
@@ -217,5 +228,5 @@ records =
     ∷ []
 
 pub records-proved : T (converse (powerOn 2 2) records)
-unfolding records converse obeyed askedReply batchReply formOf entryOf sound call answersFrom runFrom inReply writeReply readReply underMode statusReply takeReply giveReply eventOf askedOf callOrder toolOrder orderOf joined parts kadsBytes setBytes nexusBytes recordBytes kadsRead fieldsRead setRead nexusRead recordRead goodBytes readStatus scopeRules fieldRules headRules listRules answer checks effectBy actionsOf changedBy carriedOut changes flagged cleared responsePage act acts releases ownPlace room pageActions senderAfter supplemented taken statusBytes setGood nexusGood ownerIsLocal wellFormed ownedPlace selected powerOn publicPage supplementalPage setPage checked openRules modeRules plainRules keyRules setRules matchRules endRules supplementalRules listOf descriptorRules listed descriptors
+unfolding records converse obeyed askedReply batchReply formOf entryOf sound call answersFrom runFrom inReply outReply writeReply readReply underMode statusReply takeReply giveReply eventOf askedOf callOrder toolOrder orderOf joined parts kadsBytes setBytes nexusBytes recordBytes kadsRead fieldsRead setRead nexusRead recordRead goodBytes readStatus scopeRules fieldRules headRules listRules answer checks effectBy actionsOf changedBy carriedOut changes flagged cleared responsePage act acts releases ownPlace room pageActions senderAfter supplemented taken statusBytes setGood nexusGood ownerIsLocal wellFormed ownedPlace selected powerOn publicPage supplementalPage setPage checked openRules modeRules plainRules keyRules setRules matchRules endRules supplementalRules listOf descriptorRules listed descriptors
 records-proved = tt

@@ -5,16 +5,17 @@ use mathlib.Core.Path.{_≡_}
 use mathlib.Core.Bool.{Bool, true, false}
 use mathlib.Core.List.{List, [], _∷_, _++_}
 use lib.ListN.{length}
-use Rattle.wire.specs.Numbers.{two}
-use Rattle.answer.specs.Answers.{numberOf, senseOf, isDone}
-use Rattle.answer.specs.declared.Answer.the-variants.{Done}
+use Rattle.wire.specs.Numbers.{wordAt, two}
+use Rattle.answer.specs.Answers.{numberOf, senseOf, isDone, isFieldWrong}
+use Rattle.answer.specs.declared.Answer.the-variants.{Done, PageLengthWrong, FieldWrong}
 use Rattle.device.specs.Record.{State}
 use Rattle.device.specs.Selecting.{selected, selectedSet}
+use Rattle.status.specs.Reading.{readStatus}
 use Rattle.places.specs.declared.Event.{Event}
 use Rattle.drive.specs.declared.Command.{Command}
 use Rattle.drive.specs.declared.Block.{Block}
 use Rattle.drive.specs.Calls as calls
-use Rattle.drive.specs.Calls.{Call, securityIn, write}
+use Rattle.drive.specs.Calls.{Call, securityIn, securityOut, write}
 use Rattle.drive.specs.Restoring.{readValueOf}
 use Rattle.drive.specs.Checks.{answer}
 use Rattle.drive.specs.After.{after}
@@ -25,7 +26,7 @@ use Rattle.calls.specs.declared.Asked.the-variants.{PowerOn, In, Out, Write, Re
 use Rattle.recording.specs.Verdicts.{verdictNumber}
 use Rattle.batch.specs.Batches.{batchVerdict, batchRecord, batchBuffer}
 use Rattle.command.specs.Requests.{orderOf}
-use Rattle.command.specs.Replies.{Replied, askedReply}
+use Rattle.command.specs.Replies.{Replied, valuesBytes, statusReply, askedReply}
 use Rattle.command.specs.declared.Request.{Request}
 use Rattle.command.specs.declared.Order.the-variants.{Unknown, Ask, Batch, ReadStatus, TakeRecord, GiveRecord}
 
@@ -58,8 +59,13 @@ pub record Answers (s : State) (call : Call) (x : Replied) : Type 0 where
   pub sense : x .sense ≡ senseOf (answer s call)
   pub left : x .state ≡ after s call
 
+-- "the number of the faulty byte": two bytes, which give it again
+abbrev pub Points : ℕ → List ℕ → Type 0
+Points b bytes = (bytes ≡ two b) × (wordAt bytes 0 ≡ b)
+
 -- the data of IN: "the page's full length (2; 0 where refused), then the lent buffer whole"; of a write and a read that are done "0 clear, 1
--- external, 2 encrypted; place; algorithm index" and "0 plain, 1 raw, 2 decrypted; place"; of refused ones, and of every other call, none
+-- external, 2 encrypted; place; algorithm index" and "0 plain, 1 raw, 2 decrypted; place"; of OUT with answer 8 "the number of the faulty byte"; of
+-- other refused ones, and of every other call, none
 pub record Data (s : State) (page lent : List ℕ) : Type 0 where
   pub given : (c : Command) → let a = answer s (securityIn c) in askedReply s (In c) page lent .bytes ≡ two (inLength s c a) ++ inBuffer s c a lent
   pub written : (n : ℕ) (supported : Bool) → let a = answer s (write n supported) in isDone a ≡ true
@@ -68,10 +74,17 @@ pub record Data (s : State) (page lent : List ℕ) : Type 0 where
   pub read : (n : ℕ) (block : Block) → let a = answer s (calls.read n block) in isDone a ≡ true
       → askedReply s (Read n block) page lent .bytes ≡ readValueOf (readDecision s n block a) ∷ selected s n ∷ []
   pub unread : (n : ℕ) (block : Block) → isDone (answer s (calls.read n block)) ≡ false → askedReply s (Read n block) page lent .bytes ≡ []
-  pub sent : (c : Command) → askedReply s (Out c) page lent .bytes ≡ []
+  pub pointed : (c : Command) (b : ℕ) → answer s (securityOut c page) ≡ FieldWrong b → Points b (askedReply s (Out c) page lent .bytes)
+  pub sent : (c : Command) → isFieldWrong (answer s (securityOut c page)) ≡ false → askedReply s (Out c) page lent .bytes ≡ []
   pub happened : (event : Event) → askedReply s (Happen event) page lent .bytes ≡ []
   pub reset : askedReply s UnitReset page lent .bytes ≡ []
   pub powered : askedReply s PowerOn page lent .bytes ≡ []
+
+-- the data of the status reader: with answer 0 the 57 bytes of the values, with 8 "the number of the faulty byte", with 7 none
+pub record ReadsStatus (s : State) (page : List ℕ) : Type 0 where
+  pub read : readStatus page .answer ≡ Done → statusReply s page .bytes ≡ valuesBytes (readStatus page .status)
+  pub pointed : (b : ℕ) → readStatus page .answer ≡ FieldWrong b → Points b (statusReply s page .bytes)
+  pub short : readStatus page .answer ≡ PageLengthWrong → statusReply s page .bytes ≡ []
 
 -- a reply to a batch tells its verdict without sense, the lent buffer whole, and the record after it
 pub record AnswersBatch (s : State) (events pages lent : List ℕ) (x : Replied) : Type 0 where

@@ -5,7 +5,7 @@ use mathlib.Core.List.{List, [], _∷_, _++_}
 use lib.ListN.{length}
 use Rattle.arrays.specs.Base.{if_then_else_, bit}
 use Rattle.wire.specs.Numbers.{two, four}
-use Rattle.answer.specs.Answers.{numberOf, senseOf, isDone}
+use Rattle.answer.specs.Answers.{numberOf, senseOf, faultyByteOf, isDone, isFieldWrong}
 use Rattle.answer.specs.declared.Answer.{Answer}
 use Rattle.answer.specs.declared.Answer.the-variants.{Done, NotWellFormed}
 use Rattle.answer.specs.declared.Sense.{Sense}
@@ -65,6 +65,10 @@ unknownReply s = record { number = unknownNumber; sense = senseOf Done; bytes = 
 abbrev pub whenDone : Answer → List ℕ → List ℕ
 whenDone a bytes = if isDone a then bytes else []
 
+-- a page that is answered 8: "the number of the faulty byte"
+abbrev pub pointer : Answer → List ℕ
+pointer a = if isFieldWrong a then two (faultyByteOf a) else []
+
 -- a call of the drive's that gives its answer alone
 abbrev pub called : State → Call → Replied
 called s call = answered (answer s call) [] (after s call)
@@ -77,6 +81,12 @@ unfoldable pub inReply : State → Command → List ℕ → Replied
 inReply s command lent =
     let a = answer s (securityIn command) in
     answered a (inBytes s command a lent) (after s (securityIn command))
+
+-- OUT
+unfoldable pub outReply : State → Command → List ℕ → Replied
+outReply s command page =
+    let a = answer s (securityOut command page) in
+    answered a (pointer a) (after s (securityOut command page))
 
 -- a write, with that answer: "0 clear, 1 external, 2 encrypted; place; algorithm index"
 abbrev pub writeBytes : State → ℕ → Answer → List ℕ
@@ -105,10 +115,11 @@ valuesHead v =
 abbrev pub valuesBytes : Status → List ℕ
 valuesBytes v = valuesHead v ++ kadsBytes (v .kads)
 
+-- the status reader, where the answer is 0, and where it is another
 unfoldable pub statusReply : State → List ℕ → Replied
 statusReply s page =
     let read = readStatus page in
-    answered (read .answer) (whenDone (read .answer) (valuesBytes (read .status))) s
+    answered (read .answer) (if isDone (read .answer) then valuesBytes (read .status) else pointer (read .answer)) s
 
 -- "Data of another length, or with a yes/no byte above 1, are answered 1, and the record stays."
 unfoldable pub takeReply : State → List ℕ → Replied
@@ -124,7 +135,7 @@ giveReply s = answered Done (recordBytes s) s
 unfoldable pub askedReply : State → Asked → (page lent : List ℕ) → Replied
 askedReply s PowerOn page lent = called s powerUp
 askedReply s (In command) page lent = inReply s command lent
-askedReply s (Out command) page lent = called s (securityOut command page)
+askedReply s (Out command) page lent = outReply s command page
 askedReply s (Write n supported) page lent = writeReply s n supported
 askedReply s (Read n block) page lent = readReply s n block
 askedReply s UnitReset page lent = called s unitReset

@@ -25,15 +25,16 @@ use Rattle.drive.specs.After.{actionsOf, changedBy, carriedOut}
 use Rattle.drive.specs.Runs.{runFrom}
 use Rattle.drive.specs.Restoring.{underMode}
 use Rattle.drive.specs.Outcomes.{responsePage}
-use Rattle.drive.specs.Claims.{page, pageK, locked, unlocked, keyless, command, sends, block, since, sameRecord, Told, told, done, Claim, answers, makes, leaves, gives, decides, reads, stands, holds, every}
+use Rattle.drive.specs.Claims.{page, pageK, locked, unlocked, keyless, command, sends, block, since, sameRecord, Told, told, wrongAt, done, Claim, answers, makes, leaves, gives, decides, reads, stands, holds, every}
 use Rattle.drive.proofs.Table.{lent, p2, known}
 
 -- EXTERNAL and decryption DISABLE, without a key; with its bytes 4 and 5
 abbrev disabled : ℕ → ℕ → List ℕ
 disabled b4 b5 = keyless b4 b5 0x01 0x00
 
+-- "request 2's CEEM to 5"
 abbrev fieldWrong : Told
-fieldWrong = told 8 5 0x26 0x00
+fieldWrong = wrongAt 5
 
 -- "A certification lab sent CEEM 10b with decryption DISABLE": "for LOCAL and ALL with SDK 0 that is answer 8"; the sender is registered, and nothing else changes
 abbrev refused : List Claim

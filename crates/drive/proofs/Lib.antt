@@ -6,7 +6,9 @@ pub mod Refusals
 pub mod Restoring
 pub mod RestoringTable
 pub mod CeemTable
+pub mod PointingTable
 pub mod Same
 pub mod Seen
 pub mod Sending
+pub mod Pointing
 pub mod Table

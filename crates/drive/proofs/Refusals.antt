@@ -10,7 +10,7 @@ use lib.ListN.{length, getD, set, length-set}
 use lib.Seq.{set-out, getD-set-same}
 use Rattle.arrays.proofs.Laws.{getD-set-by}
 use Rattle.arrays.proofs.Base.{if-false, clash}
-use Rattle.answer.specs.Answers.{rowOf, numberOf, isDone, changeOf}
+use Rattle.answer.specs.Answers.{rowOf, numberOf, faultyByteOf, isDone, changeOf}
 use Rattle.answer.specs.declared.Answer.{Answer}
 use Rattle.answer.specs.declared.Answer.the-variants.{Done, NotWellFormed, NexusAbove, ChangedByAnotherNexus, ChangedByVendorEvent, ProtocolNotSupported, PageNotSupported, PageLengthWrong, FieldWrong, FifthSupplementalKey, NoPlaceForLocal, KeyInstanceChanged, ParametersNotUsable, PlaceAbove, BlockNotKnown, UnableToDecrypt, NotEncrypted, KeyIncorrect}
 use Rattle.answer.specs.declared.Change.{Change}
@@ -85,7 +85,7 @@ refusals-keep s call f =
 -- ---- the answer
 
 -- each stands in the table
-in-table : (a : Answer) → (numberOf a ≤ 17) × (rowOf a ≡ rowAt (numberOf a))
+in-table : (a : Answer) → (numberOf a ≤ 17) × (rowOf a ≡ rowAt (faultyByteOf a) (numberOf a))
 in-table Done = (omega arith, refl)
 in-table NotWellFormed = (omega arith, refl)
 in-table NexusAbove = (omega arith, refl)
@@ -94,7 +94,7 @@ in-table ChangedByVendorEvent = (omega arith, refl)
 in-table ProtocolNotSupported = (omega arith, refl)
 in-table PageNotSupported = (omega arith, refl)
 in-table PageLengthWrong = (omega arith, refl)
-in-table FieldWrong = (omega arith, refl)
+in-table (FieldWrong byte) = (omega arith, refl)
 in-table FifthSupplementalKey = (omega arith, refl)
 in-table NoPlaceForLocal = (omega arith, refl)
 in-table KeyInstanceChanged = (omega arith, refl)

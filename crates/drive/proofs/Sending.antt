@@ -29,10 +29,10 @@ module _ (s : State) (command : Command) (reached : Reached s command) (page : L
   page-decides =
       simp (reached .formed, lt-leb _ _ (reached .within), reached .another, reached .vendor, eq-eqb _ _ (reached .protocol), eq-eqb _ _ (reached .code))
 
-  -- A page that makes a set with CEEM 10b or 11b and decryption DISABLE is answered 8, whoever sends it.
-  pub ceem-refused : MakesSet page → CeemFault page → answer s (securityOut command page) ≡ FieldWrong
+  -- A page that makes a set with CEEM 10b or 11b and decryption DISABLE is answered 8 at byte 5, whoever sends it.
+  pub ceem-refused : MakesSet page → CeemFault page → answer s (securityOut command page) ≡ FieldWrong 5
   ceem-refused makes fault =
-      let told : pageChecked s (command .nexus) page .answer ≡ FieldWrong = byte-5-told page makes _ _ _ (inr fault) .0 in
+      let told : pageChecked s (command .nexus) page .answer ≡ FieldWrong 5 = byte-5-told page makes _ _ _ (inr fault) in
       page-decides ∙ rw told
 
   -- A LOCAL page that makes a set, and that its own check takes, is answered 10 where there is no room for it, else 0.

@@ -26,7 +26,7 @@ use Rattle.drive.specs.Effects.{effectBy}
 use Rattle.drive.specs.After.{actionsOf, changedBy, carriedOut}
 use Rattle.drive.specs.Runs.{runFrom}
 use Rattle.drive.specs.Outcomes.{responsePage}
-use Rattle.drive.specs.Claims.{page, pageK, locked, unlocked, withUKad, keyless, command, sends, since, sameRecord, told, done, Claim, answers, makes, leaves, gives, decides, selects, stands, marked, counts, holds, every}
+use Rattle.drive.specs.Claims.{page, pageK, locked, unlocked, withUKad, keyless, command, sends, since, sameRecord, told, wrongAt, done, Claim, answers, makes, leaves, gives, decides, selects, stands, marked, counts, holds, every}
 
 -- what a lent buffer holds before: bytes that no page has
 abbrev pub lent : ℕ → List ℕ
@@ -76,7 +76,7 @@ table =
     ∷ selects (since p2) 3 1 1
     ∷ gives (since p2) (command 3 0x20) (lent 24) done 24 status2
     ∷ answers (since []) (sends 3 (take 51 (pageK locked))) (told 7 5 0x1A 0x00)  -- P3
-    ∷ answers (since []) (sends 3 (pageK 0x61)) (told 8 5 0x26 0x00)
+    ∷ answers (since []) (sends 3 (pageK 0x61)) (wrongAt 4)
     ∷ decides (since p2) 3 true done 2 1 1  -- P4
     ∷ decides (since p2) 3 false (told 12 7 0x74 0x07) 255 0 0
     ∷ selects (since p5) 4 1 6  -- P5
@@ -92,8 +92,8 @@ table =
     ∷ decides (since p9) 3 true done 2 1 1
     ∷ answers (since (p9 ++ another ∷ another ∷ another ∷ [])) another (told 9 5 0x55 0x08)
     ∷ answers (since []) (sends 3 (withUKad 32)) done  -- P10
-    ∷ answers (since []) (sends 3 (withUKad 33)) (told 8 5 0x26 0x00)
-    ∷ answers (since []) (sends 3 (withUKad 0)) (told 8 5 0x26 0x00)
+    ∷ answers (since []) (sends 3 (withUKad 33)) (wrongAt 54)
+    ∷ answers (since []) (sends 3 (withUKad 0)) (wrongAt 54)
     ∷ []
 
 pub proved : T (every table)
@@ -183,7 +183,7 @@ registering =
     ∷ decides (since (securityOut (command 5 0x11) (pageK locked) ∷ shared ∷ [])) 5 true (told 3 6 0x2A 0x11) 255 0 0
     ∷ makes (since []) (sends 5 (take 51 (pageK locked))) (told 7 5 0x1A 0x00) (known 5 (since []))
     ∷ decides (since (sends 5 (take 51 (pageK locked)) ∷ shared ∷ [])) 5 true (told 3 6 0x2A 0x11) 255 0 0
-    ∷ makes (since []) (sends 5 (pageK 0x61)) (told 8 5 0x26 0x00) (known 5 (since []))
+    ∷ makes (since []) (sends 5 (pageK 0x61)) (wrongAt 4) (known 5 (since []))
     ∷ decides (since (sends 5 (pageK 0x61) ∷ shared ∷ [])) 5 true (told 3 6 0x2A 0x11) 255 0 0
     ∷ makes (since fourKeys) (sends 5 (supplemental 0x40)) (told 9 5 0x55 0x08) (known 5 (since fourKeys))
     ∷ decides (since (fourKeys ++ sends 5 (supplemental 0x40) ∷ shared ∷ [])) 5 true (told 3 6 0x2A 0x11) 255 0 0

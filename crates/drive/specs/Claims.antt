@@ -4,7 +4,7 @@ use mathlib.Core.Bool.{Bool, true, false, not, _&&_}
 use mathlib.Core.List.{List, [], _∷_, _++_}
 use lib.Dec.{eqb}
 use lib.ListN.{replicate}
-use Rattle.answer.specs.Answers.{numberOf, senseOf}
+use Rattle.answer.specs.Answers.{numberOf, senseOf, faultyByteOf}
 use Rattle.answer.specs.declared.Answer.{Answer}
 use Rattle.parameters.specs.declared.Fields.{Fields}
 use Rattle.device.specs.Record.{State, nexusAt, setAt}
@@ -125,15 +125,20 @@ sameRecord s t = eqb (s .counter) (t .counter) && sameSets (s .sets) (t .sets) &
 
 -- ---- claims
 
--- what an answer tells: its number and its sense, in numbers
+-- what an answer tells: its number, its sense and the faulty byte, in numbers
 pub record Told : Type 0 where
   pub number : ℕ
   pub key : ℕ
   pub asc : ℕ
   pub ascq : ℕ
+  pub byte : ℕ
 
 abbrev pub told : ℕ → ℕ → ℕ → ℕ → Told
-told number key asc ascq = record { number = number; key = key; asc = asc; ascq = ascq }
+told number key asc ascq = record { number = number; key = key; asc = asc; ascq = ascq; byte = 0 }
+
+-- answer 8, with its byte
+abbrev pub wrongAt : (byte : ℕ) → Told
+wrongAt byte = record { number = 8; key = 5; asc = 0x26; ascq = 0x00; byte = byte }
 
 abbrev pub done : Told
 done = told 0 0 0 0
@@ -165,7 +170,9 @@ leaves s call t = makes s call t s
 
 -- an answer tells that
 abbrev pub tells : Answer → Told → Bool
-tells a t = eqb (numberOf a) (t .number) && eqb (senseOf a .key) (t .key) && eqb (senseOf a .asc) (t .asc) && eqb (senseOf a .ascq) (t .ascq)
+tells a t =
+    eqb (numberOf a) (t .number) && eqb (senseOf a .key) (t .key) && eqb (senseOf a .asc) (t .asc) && eqb (senseOf a .ascq) (t .ascq)
+    && eqb (faultyByteOf a) (t .byte)
 
 unfoldable pub holds : Claim → Bool
 holds (answers s call t) = tells (answer s call) t

@@ -9,3 +9,4 @@ pub mod Claims
 pub mod Refusals
 pub mod RestoringClaims
 pub mod Sending
+pub mod Pointing

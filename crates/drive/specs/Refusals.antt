@@ -4,7 +4,7 @@ use mathlib.Core.Path.{_≡_}
 use mathlib.Core.Bool.{Bool, true, false}
 use mathlib.Core.List.{List}
 use lib.ListN.{length, getD}
-use Rattle.answer.specs.Answers.{row, rowOf, numberOf, isDone}
+use Rattle.answer.specs.Answers.{row, rowOf, numberOf, faultyByteOf, isDone}
 use Rattle.answer.specs.Printed.{printed}
 use Rattle.answer.specs.declared.Row.{Row}
 use Rattle.answer.specs.declared.Change.{Change}
@@ -45,15 +45,15 @@ pub record OnlyMarks (sender : Actor) (change : Change) (before after : State) :
   pub nobody : sender ≡ Nobody → after ≡ before
   pub above : (n : ℕ) → isActor sender n ≡ true → length (before .nexuses) ≤ n → after ≡ before
 
--- the row of a number in the table
-abbrev pub rowAt : ℕ → Row
-rowAt number = getD printed number (row 0 0 0 0 Unchanged)
+-- the row of a number in the table, in which answer 8 carries that byte
+abbrev pub rowAt : (byte number : ℕ) → Row
+rowAt byte number = getD (printed byte) number (row 0 0 0 0 Unchanged)
 
 -- what an answer carries, of a record: its number is that of one of those 18 rows, whose sense and change are its own;
 -- "A refused answer carries its number and sense only"
 pub record Carries (s : State) : Type 0 where
   pub number : (call : Call) → numberOf (answer s call) ≤ 17
-  pub row : (call : Call) → rowOf (answer s call) ≡ rowAt (numberOf (answer s call))
+  pub row : (call : Call) → rowOf (answer s call) ≡ rowAt (faultyByteOf (answer s call)) (numberOf (answer s call))
   pub inward :
       (command : Command) (buffer : List ℕ) → let a = answer s (securityIn command) in
       isDone a ≡ false → (inLength s command a ≡ 0) × (inBuffer s command a buffer ≡ buffer)

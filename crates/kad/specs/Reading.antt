@@ -42,8 +42,8 @@ abbrev pub rising : Seen → ℕ → Bool
 rising Nothing kind = true
 rising (Last kind₀) kind = ltb kind₀ kind
 
--- the rules of the first descriptor of a list that isn't empty, in the order of its bytes.
--- A descriptor cut short by the end points to its type byte, a wrong length to its first length byte.
+-- the rules of the first descriptor of a list that isn't empty, in the order of its bytes. Document 02, request 6: "a descriptor length to its
+-- first length byte, a descriptor cut short by the page's end to its type byte".
 unfoldable pub descriptorRules : List ℕ → Seen → List Rule
 descriptorRules s seen =
     rule 0 (leb (typeOf s) 1)

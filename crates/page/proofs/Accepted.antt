@@ -110,10 +110,10 @@ list-good encryption rest =
 -- ---- past the refusals
 
 -- a refusal isn't done
-past-refusal : (P : Checked → Type 0) (b : Bool) (answer : Answer) (fault : ℕ) (y : Checked) → (numberOf answer ≡ 0 → ⊥)
-    → (b ≡ false → y .answer ≡ Done → P y) → (if b then refusedPage answer fault else y) .answer ≡ Done → P (if b then refusedPage answer fault else y)
-past-refusal P true answer fault y n f e = absurd (n (ap numberOf e))
-past-refusal P false answer fault y n f e = f refl e
+past-refusal : (P : Checked → Type 0) (b : Bool) (answer : Answer) (y : Checked) → (numberOf answer ≡ 0 → ⊥)
+    → (b ≡ false → y .answer ≡ Done → P y) → (if b then refusedPage answer else y) .answer ≡ Done → P (if b then refusedPage answer else y)
+past-refusal P true answer y n f e = absurd (n (ap numberOf e))
+past-refusal P false answer y n f e = f refl e
 
 module _ (p : List ℕ) (long : keyFrom ≤ length p) (opens : AllHold (openRules p)) (used : isPublic p ≡ false) where
   -- LOCAL or ALL
@@ -127,10 +127,10 @@ module _ (p : List ℕ) (long : keyFrom ≤ length p) (opens : AllHold (openRule
       let n = length p in
       let fault = breach (supplementalRules p scope mode) n in
       let P : Checked → Type 0 = λ c. IsSupplemental scope mode count (c .page) in
-      past-refusal P (ltb fault n) FieldWrong fault _ (λ z. omega arith)
+      past-refusal P (ltb fault n) (FieldWrong fault) _ (λ z. omega arith)
       (λ t.
       let held = supplemental-hold p scope mode long (ltb-false fault n t) .0 in
-      past-refusal P (leb supplementalMost count) FifthSupplementalKey 0 _ (λ z. omega arith)
+      past-refusal P (leb supplementalMost count) FifthSupplementalKey _ (λ z. omega arith)
       (λ u d. record {
         supplemental = refl;
         unlocked = refl;
@@ -150,10 +150,10 @@ module _ (p : List ℕ) (long : keyFrom ≤ length p) (opens : AllHold (openRule
       let fault = breach (setRules p) n in
       let end = keyEnd p + listedOf p .good in
       let P : Checked → Type 0 = λ c. IsSet (c .page) in
-      past-refusal P (ltb fault n) FieldWrong fault _ (λ z. omega arith)
+      past-refusal P (ltb fault n) (FieldWrong fault) _ (λ z. omega arith)
       (λ t.
       let held = set-hold p long (ltb-false fault n t) in
-      past-refusal P (ltb end n) FieldWrong end _ (λ z. omega arith)
+      past-refusal P (ltb end n) (FieldWrong end) _ (λ z. omega arith)
       (λ u d. record {
         fresh = refl;
         scoped = record { used = scope-in .0; known = scope-in .1 };
@@ -174,10 +174,10 @@ accepted-page p scope mode count =
     let n = length p in
     let fault = breach (openRules p) n in
     let P : Checked → Type 0 = λ c. IsPublic (c .page) ⊎ (IsSupplemental scope mode count (c .page) ⊎ IsSet (c .page)) in
-    past-refusal P (lengthWrong keyFrom p) PageLengthWrong 0 _ (λ z. omega arith)
+    past-refusal P (lengthWrong keyFrom p) PageLengthWrong _ (λ z. omega arith)
     (λ e.
     let long = right-length keyFrom p e .0 in
-    past-refusal P (ltb fault n) FieldWrong fault _ (λ z. omega arith)
+    past-refusal P (ltb fault n) (FieldWrong fault) _ (λ z. omega arith)
     (λ t.
     let opens = kept (openRules p) n n (under-more (openRules p) 5 n (omega arith) (open-under p)) (ltb-false fault n t) in
     if-elim (λ (c : Checked). c .answer ≡ Done → P c) (isPublic p) (λ u d. inl (record { public = refl; fresh = refl; fields = refl }))
@@ -189,7 +189,7 @@ unfolding checked setPage
 set-says p scope mode count u v =
     let n = length p in
     let P : Checked → Type 0 = λ c. c .page ≡ setSaid p in
-    past-refusal P (lengthWrong keyFrom p) PageLengthWrong 0 _ (λ z. omega arith)
-    (λ e. past-refusal P (ltb (breach (openRules p) n) n) FieldWrong _ _ (λ z. omega arith)
-    (λ t. rw (u, v) (past-refusal P (ltb (breach (setRules p) n) n) FieldWrong _ _ (λ z. omega arith)
-    (λ k. past-refusal P (ltb (keyEnd p + listedOf p .good) n) FieldWrong _ _ (λ z. omega arith) (λ l d. refl)))))
+    past-refusal P (lengthWrong keyFrom p) PageLengthWrong _ (λ z. omega arith)
+    (λ e. past-refusal P (ltb (breach (openRules p) n) n) (FieldWrong _) _ (λ z. omega arith)
+    (λ t. rw (u, v) (past-refusal P (ltb (breach (setRules p) n) n) (FieldWrong _) _ (λ z. omega arith)
+    (λ k. past-refusal P (ltb (keyEnd p + listedOf p .good) n) (FieldWrong _) _ (λ z. omega arith) (λ l d. refl)))))

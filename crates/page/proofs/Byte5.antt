@@ -21,11 +21,10 @@ use Rattle.parameters.specs.Fields.{keySize}
 use Rattle.page.specs.Fields.{keyFrom, pageCode, scopeOf, isPublic, reservedOf, ceemOf, rdmcOf, sdkOf, encryptionOf, decryptionOf}
 use Rattle.page.specs.Rules.{openRules, ceemWrong, modeRules, plainRules, keyLength, keyRules, setRules, matchRules, endRules, supplementalRules}
 use Rattle.page.specs.Check.{refusedPage, setPage, checked}
-use Rattle.page.specs.Lowest.{afterRules, innerRules, pageRules}
 use Rattle.page.specs.Byte5.{MakesSet, RdmcFault, CeemFault, Byte5Fault, WrongAt}
 use Rattle.page.specs.declared.Checked.{Checked}
 use Rattle.page.proofs.Parts.{two-or-three}
-use Rattle.page.proofs.Lowest.{inner-sorted, length-verdict, wrong-is-lowest}
+use Rattle.page.proofs.Lowest.{afterRules, innerRules, pageRules, inner-sorted, page-verdict, length-verdict}
 
 -- ---- what breaks at byte 5
 
@@ -70,10 +69,10 @@ module _ (p : List ℕ) where
 
 module _ (p : List ℕ) (scope mode count : ℕ) where
   -- its length isn't wrong
-  fault-sized : checked p scope mode count .answer ≡ FieldWrong → lengthWrong keyFrom p ≡ false
+  fault-sized : WrongAt 5 (checked p scope mode count) → lengthWrong keyFrom p ≡ false
   fault-sized e =
       cases (lengthWrong keyFrom p)
-      (λ t. differ PageLengthWrong FieldWrong (λ z. omega arith) (ap (λ (c : Checked). c .answer) (length-verdict p scope mode count t)) e) (λ t. t)
+      (λ t. differ PageLengthWrong (FieldWrong 5) (λ z. omega arith) (ap (λ (c : Checked). c .answer) (length-verdict p scope mode count t)) e) (λ t. t)
 
   -- nor is anything before it
   module _ (low : Lowest 5 (pageRules p scope mode)) where
@@ -106,10 +105,10 @@ module _ (p : List ℕ) (scope mode count : ℕ) where
   -- A page that is refused at byte 5 is LOCAL or ALL with SDK 0, right up to byte 4, with RDMC 01b under ENCRYPT or CEEM 10b or 11b and decryption DISABLE.
   pub byte-5-due : WrongAt 5 (checked p scope mode count) → MakesSet p × Byte5Fault p
   byte-5-due w =
-      let low : Lowest 5 (pageRules p scope mode) = rw (w .1) at (wrong-is-lowest p scope mode count (w .0)) in
+      let low : Lowest 5 (pageRules p scope mode) = page-verdict p scope mode count .lowest 5 w in
       let f = inner-fault p scope mode (inner-breaks low) in
       let makes : MakesSet p = record {
-        sized = fault-sized (w .0);
+        sized = fault-sized w;
         code = code-right low;
         scope = scope-used low (f .0);
         reserved = reserved-zero low (f .0) (f .1 .0);
@@ -140,6 +139,6 @@ module _ (p : List ℕ) (makes : MakesSet p) where
   unfolding checked openRules setPage
   byte-5-told scope mode count f =
       let long : 5 < length p = omega (arith, right-length keyFrom p (makes .sized) .0) in
-      let e : checked p scope mode count ≡ refusedPage FieldWrong 5 =
+      let e : checked p scope mode count ≡ refusedPage (FieldWrong 5) =
       simp (makes .sized, eq-eqb _ _ (makes .code), scope-taken, le-ltb (length p) (length p) (le-refl (length p)), not-public, makes .fresh, first-at-5 f, lt-ltb 5 (length p) long) in
-      (ap (λ (c : Checked). c .answer) e, ap (λ (c : Checked). c .fault) e)
+      ap (λ (c : Checked). c .answer) e

@@ -23,7 +23,7 @@ pair scope ceem encryption decryption =
 abbrev paired : ℕ → ℕ → ℕ → Bool → ℕ → Row
 paired scope encryption ceem ok decryption =
     first (pair scope ceem encryption decryption)
-    (if ok then setWith scope false ceem false encryption decryption (padded 32 (take (keyLength encryption decryption) key)) noKads else refusedPage FieldWrong 5)
+    (if ok then setWith scope false ceem false encryption decryption (padded 32 (take (keyLength encryption decryption) key)) noKads else refusedPage (FieldWrong 5))
 
 -- each CEEM with DISABLE, RAW, DECRYPT and MIXED: is it taken?
 abbrev withEach : ℕ → ℕ → ℕ → Bool → Bool → Bool → Bool → List Row
@@ -49,12 +49,12 @@ labPage byte4 byte5 = 0x00 ∷ 0x10 ∷ 0x00 ∷ 0x10 ∷ byte4 ∷ byte5 ∷ 0x
 -- and others
 abbrev lab : List Row
 lab =
-    first (labPage 0x40 0x80) (refusedPage FieldWrong 5)
+    first (labPage 0x40 0x80) (refusedPage (FieldWrong 5))
     -- with every other bit of byte 5 but SDK, and with LOCK
-    ∷ first (labPage 0x41 0xB7) (refusedPage FieldWrong 5)
-    ∷ first (labPage 0x21 0xF7) (refusedPage FieldWrong 5)
+    ∷ first (labPage 0x41 0xB7) (refusedPage (FieldWrong 5))
+    ∷ first (labPage 0x21 0xF7) (refusedPage (FieldWrong 5))
     -- with SDK 1, from a nexus whose set has DISABLE too: "byte 7 .. is 2 or 3"
-    ∷ record { page = labPage 0x40 0x88; scope = 2; mode = 0; count = 0; outcome = refusedPage FieldWrong 7 }
+    ∷ record { page = labPage 0x40 0x88; scope = 2; mode = 0; count = 0; outcome = refusedPage (FieldWrong 7) }
     -- PUBLIC: "every other field, SDK included, is ignored"
     ∷ first (labPage 0x00 0x80) (public false)
     ∷ first (labPage 0x01 0xC0) (public true)
@@ -62,12 +62,12 @@ lab =
     ∷ next 0 (page (body 0x20 0x88 0 2 plain key [])) appended
     ∷ next 0 (page (body 0x20 0xC8 0 2 plain key [])) appended
     -- faults before byte 5 come first, and those after it don't
-    ∷ first (labPage 0x60 0x80) (refusedPage FieldWrong 4)
-    ∷ first (labPage 0x42 0x80) (refusedPage FieldWrong 4)
-    ∷ first (page (body 0x40 0x90 2 0 plain key [])) (refusedPage FieldWrong 5)
-    ∷ first (page (body 0x40 0x80 3 0 plain [] [])) (refusedPage FieldWrong 5)
-    ∷ first (page (body 0x40 0x80 2 0 plain [] [])) (refusedPage FieldWrong 5)
-    ∷ first (page (body 0x40 0x80 0 4 plain [] [])) (refusedPage FieldWrong 7)
+    ∷ first (labPage 0x60 0x80) (refusedPage (FieldWrong 4))
+    ∷ first (labPage 0x42 0x80) (refusedPage (FieldWrong 4))
+    ∷ first (page (body 0x40 0x90 2 0 plain key [])) (refusedPage (FieldWrong 5))
+    ∷ first (page (body 0x40 0x80 3 0 plain [] [])) (refusedPage (FieldWrong 5))
+    ∷ first (page (body 0x40 0x80 2 0 plain [] [])) (refusedPage (FieldWrong 5))
+    ∷ first (page (body 0x40 0x80 0 4 plain [] [])) (refusedPage (FieldWrong 7))
     ∷ []
 
 -- all 16 pairs of CEEM and decryption mode, under each encryption mode, LOCAL and ALL

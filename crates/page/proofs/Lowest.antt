@@ -1,36 +1,53 @@
--- The faulty byte of answer 8 is the lowest byte at which a rule of the page breaks.
+-- The byte of answer 8 is the lowest at which a rule of the page breaks, over its rules in the order of their bytes.
 -- Assumes nothing.
-use mathlib.Core.Path.{_≡_, refl, sym, ap, _∙_}
-use mathlib.Core.Bool.{true, false}
-use mathlib.Core.Logic.{_⊎_, inl, inr, ⊎-elim}
-use mathlib.Core.List.{List, [], _++_}
-use Prim.Native.Nat.{ℕ, _+_, _<_, _≤_}
+use mathlib.Core.Path.{_≡_, refl, sym, _∙_}
+use mathlib.Core.Bool.{true}
+use mathlib.Core.Logic.{_⊎_, inl, inr}
+use mathlib.Core.List.{List, [], _∷_, _++_}
+use Prim.Native.Nat.{ℕ, _+_, _^_, _<_, _≤_}
 use native.Mathlib.Nat.{le-refl, add-zero}
 use native.Mathlib.Omega.{arith}
 use borrow.Author.Tests.{ltb-true, ltb-false, leb-true, le-leb}
 use lib.Dec.{ltb, leb}
 use lib.ListN.{length, drop, length-drop}
-use Rattle.arrays.proofs.Base.{cases}
-use Rattle.wire.specs.Rules.{lengthWrong, Rule, breach, BreaksAt, Lowest}
+use Rattle.arrays.specs.Base.{if_then_else_}
+use Rattle.arrays.proofs.Base.{cases, if-elim}
+use Rattle.wire.specs.Rules.{lengthWrong, Rule, rule, breach}
 use Rattle.wire.proofs.Rules.{AllHold, Under, kept, none, low, high, Sorted, sorted-from, sorted-append, hold-append, under-append, under-more, zeros-sorted}
-use Rattle.wire.proofs.Lowest.{right-length, lowest-of, hold-none}
-use Rattle.answer.specs.Answers.{numberOf}
+use Rattle.wire.proofs.Lowest.{right-length, breach-under, lowest-of}
 use Rattle.answer.specs.declared.Answer.{Answer}
 use Rattle.answer.specs.declared.Answer.the-variants.{Done, PageLengthWrong, FieldWrong, FifthSupplementalKey}
-use Rattle.answer.proofs.Numbers.{differ}
+use Rattle.pointing.specs.Judged.{Judged}
+use Rattle.pointing.proofs.Judging.{judged-short, judged-wrong, judged-right}
 use Rattle.kad.specs.Kad.{noKads}
 use Rattle.kad.specs.Reading.{listed}
 use Rattle.kad.specs.Rules.{listRules}
 use Rattle.kad.specs.declared.Seen.the-variants.{Nothing}
+use Rattle.kad.proofs.Few.{list-few}
 use Rattle.kad.proofs.Lowest.{list-sorted, list-hold, first-fault}
-use Rattle.parameters.specs.Codes.{encrypts}
+use Rattle.parameters.specs.Codes.{encrypts, needsKey}
 use Rattle.parameters.specs.Fields.{keySize, supplementalMost}
-use Rattle.page.specs.Fields.{isPublic, sdkOf, reservedFrom, reservedBytes, keyFrom, encryptionOf, decryptionOf, keyEnd, listOf, listedOf}
+use Rattle.page.specs.Fields.{isPublic, sdkOf, reservedFrom, reservedBytes, keyFrom, encryptionOf, decryptionOf, keyLengthOf, keyEnd, listOf, listedOf}
 use Rattle.page.specs.Rules.{openRules, modeRules, plainRules, keyLength, keyRules, setRules, matchRules, endRules, supplementalRules}
 use Rattle.page.specs.Check.{refusedPage, publicPage, supplementalPage, setPage, checked}
-use Rattle.page.specs.Lowest.{afterRules, innerRules, pageRules}
 use Rattle.page.specs.declared.Checked.{Checked}
 use Rattle.page.proofs.Parts.{open-under, mode-under, match-under, plain-under, key-under, set-hold, supplemental-hold, key-fits}
+
+-- ---- the rules, as their tests stand in the definitions that the code cites
+
+-- of what stands after the key: with ENCRYPT those of the descriptors; "Without ENCRYPT the list is empty"
+unfoldable pub afterRules : List ℕ → List Rule
+afterRules p =
+    let rest = drop (keyEnd p) p in
+    if encrypts (encryptionOf p) then listRules (length rest) (keyEnd p) rest Nothing else rule (keyEnd p) (leb (length p) (keyEnd p)) ∷ []
+
+-- past the page code and the scope
+unfoldable pub innerRules : List ℕ → ℕ → ℕ → List Rule
+innerRules p scope mode = if isPublic p then [] else if sdkOf p then supplementalRules p scope mode else setRules p ++ afterRules p
+
+-- all of them
+abbrev pub pageRules : List ℕ → ℕ → ℕ → List Rule
+pageRules p scope mode = openRules p ++ innerRules p scope mode
 
 -- ---- they stand in the order of their bytes
 
@@ -55,6 +72,15 @@ unfolding supplementalRules matchRules endRules
 supplemental-sorted p scope mode =
     parts-sorted (matchRules p scope mode) (keyRules p keySize ++ endRules p) p (omega arith) (match-under p scope mode)
     (sorted-append (keyRules p keySize) (endRules p) 18 19 (key-sorted p keySize) (key-under p keySize 19 (omega arith)) (omega arith) (omega arith))
+
+-- which point below byte 53
+supplemental-under : (p : List ℕ) (scope mode : ℕ) → Under 53 (supplementalRules p scope mode)
+unfolding supplementalRules endRules
+supplemental-under p scope mode =
+    let last = keyRules p keySize ++ endRules p in
+    under-append (matchRules p scope mode) (plainRules p ++ last) 53 (under-more (matchRules p scope mode) 8 53 (omega arith) (match-under p scope mode))
+    (under-append (plainRules p) last 53 (under-more (plainRules p) 18 53 (omega arith) (plain-under p))
+    (under-append (keyRules p keySize) (endRules p) 53 (key-under p keySize 53 (omega arith)) (omega arith)))
 
 -- with SDK 0 up to the key's end
 set-sorted : (p : List ℕ) → Sorted 4 (setRules p)
@@ -116,6 +142,14 @@ after-hold p l h =
     (λ t. rw t (let all : length p ≤ keyEnd p + listed (length rest) rest Nothing noKads .good = rw t at h in list-hold (length rest) (keyEnd p) rest Nothing noKads (le-refl (length rest)) (omega arith)))
     (λ t. rw t (let all : length p ≤ keyEnd p + 0 = rw t at h in (le-leb (length p) (keyEnd p) (omega arith), tt)))
 
+-- which lies within two bytes' numbers, where the key length is right
+end-fits : (p : List ℕ) → keyLengthOf p ≡ keyLength (encryptionOf p) (decryptionOf p) → keyEnd p + listedOf p .good < 2 ^ 16
+unfolding listOf
+end-fits p e =
+    let rest = drop (keyEnd p) p in
+    let few : keyLength (encryptionOf p) (decryptionOf p) ≤ keySize = if-elim (λ (n : ℕ). n ≤ keySize) (needsKey (encryptionOf p) (decryptionOf p)) (λ _. le-refl keySize) (λ _. omega arith) in
+    cases (encrypts (encryptionOf p)) (λ t. rw t (omega (arith, e, few, list-few (length rest) rest noKads))) (λ t. rw t (omega (arith, e, few)))
+
 -- ---- the parts held together
 
 -- with SDK 0
@@ -135,47 +169,41 @@ supplemental-all p scope mode h =
 
 -- ---- the whole check
 
--- answer 8, with the lowest byte at which a rule breaks
-pub record Wrong (rules : List Rule) (c : Checked) : Type 0 where
-  pub told : c .answer ≡ FieldWrong
-  pub fault : Lowest (c .fault) rules
-
--- every rule holds, and the page is done or brings a fifth supplemental key
-pub record Right (rules : List Rule) (c : Checked) : Type 0 where
-  pub told : (c .answer ≡ Done) ⊎ (c .answer ≡ FifthSupplementalKey)
-  pub holds : AllHold rules
-
--- the one or the other
-abbrev pub Verdict : List Rule → Checked → Type 0
-Verdict rules c = Wrong rules c ⊎ Right rules c
+-- what is said of an answer to the page
+abbrev Verdict : List ℕ → List Rule → Checked → Type 0
+Verdict p rules c = Judged keyFrom rules p (c .answer)
 
 module _ (p : List ℕ) (ys : List Rule) (sorted : Sorted 4 ys) (opens : AllHold (openRules p)) where
   -- where the page code and the scope are right, a breach of the others before the page's end is the lowest
-  others-wrong : (i : ℕ) → i ≡ breach ys (length p) → i < length p → Verdict (openRules p ++ ys) (refusedPage FieldWrong i)
-  others-wrong i e l =
+  others-wrong : (i : ℕ) → i ≡ breach ys (length p) → i < length p → i < 2 ^ 16 → Verdict p (openRules p ++ ys) (refusedPage (FieldWrong i))
+  others-wrong i e l small =
       let first = high (openRules p) ys (length p) 5 5 (open-under p) (sym (none (openRules p) 5 opens)) (le-refl 5) in
-      inl (record { told = refl; fault = lowest-of (openRules p ++ ys) (length p) i (open-sorted p ys sorted) (e ∙ sym first) l })
+      judged-wrong keyFrom (openRules p ++ ys) p _ i (lowest-of (openRules p ++ ys) (length p) i (open-sorted p ys sorted) (e ∙ sym first) l) l small refl
 
   -- and where the others hold, the page is done
-  others-right : (c : Checked) → (c .answer ≡ Done) ⊎ (c .answer ≡ FifthSupplementalKey) → AllHold ys → Verdict (openRules p ++ ys) c
-  others-right c t h = inr (record { told = t; holds = hold-append (openRules p) ys opens h })
+  others-right : (a : Answer) → (a ≡ Done) ⊎ (a ≡ FifthSupplementalKey) → AllHold ys → Judged keyFrom (openRules p ++ ys) p a
+  others-right a t h = judged-right keyFrom (openRules p ++ ys) p a (hold-append (openRules p) ys opens h) t
 
 module _ (p : List ℕ) (long : keyFrom ≤ length p) (opens : AllHold (openRules p)) where
   -- a page with SDK 1
-  supplemental-verdict : (scope mode count : ℕ) → Verdict (openRules p ++ supplementalRules p scope mode) (supplementalPage p scope mode count)
+  supplemental-verdict : (scope mode count : ℕ) → Verdict p (openRules p ++ supplementalRules p scope mode) (supplementalPage p scope mode count)
   unfolding supplementalPage
   supplemental-verdict scope mode count =
       let rules = supplementalRules p scope mode in
       let fault = breach rules (length p) in
       let sorted = supplemental-sorted p scope mode in
-      cases (ltb fault (length p)) (λ t. rw t (others-wrong p rules sorted opens fault refl (ltb-true fault (length p) t)))
+      cases (ltb fault (length p))
+      (λ t.
+      let lt = ltb-true fault (length p) t in
+      let below = breach-under rules (length p) 53 (supplemental-under p scope mode) lt in
+      rw t (others-wrong p rules sorted opens fault refl lt (omega arith)))
       (λ t.
       let all = supplemental-all p scope mode (supplemental-hold p scope mode long (ltb-false fault (length p) t)) in
-      cases (leb supplementalMost count) (λ u. rw (t, u) (others-right p rules sorted opens (refusedPage FifthSupplementalKey 0) (inr refl) all))
-      (λ u. rw (t, u) (others-right p rules sorted opens _ (inl refl) all)))
+      cases (leb supplementalMost count) (λ u. rw (t, u) (others-right p rules sorted opens FifthSupplementalKey (inr refl) all))
+      (λ u. rw (t, u) (others-right p rules sorted opens Done (inl refl) all)))
 
   -- a page with SDK 0
-  set-verdict : Verdict (openRules p ++ (setRules p ++ afterRules p)) (setPage p)
+  set-verdict : Verdict p (openRules p ++ (setRules p ++ afterRules p)) (setPage p)
   unfolding setPage
   set-verdict =
       let n = length p in
@@ -187,19 +215,23 @@ module _ (p : List ℕ) (long : keyFrom ≤ length p) (opens : AllHold (openRule
       cases (ltb fault n)
       (λ t.
       let lt = ltb-true fault n t in
-      rw t (others-wrong p rules sorted opens fault (sym (low (setRules p) (afterRules p) n n fault refl lt)) lt))
+      let below = breach-under (setRules p) n 20 (set-under p 20 (omega arith)) lt in
+      rw t (others-wrong p rules sorted opens fault (sym (low (setRules p) (afterRules p) n n fault refl lt)) lt (omega arith)))
       (λ t.
       let le = ltb-false fault n t in
       let held = set-hold p long le in
-      let fits = key-fits p _ (held .1 .1) .1 in
+      let key = key-fits p _ (held .1 .1) in
+      let fits = key .1 in
       cases (ltb end n)
-      (λ u. rw (t, u) (others-wrong p rules sorted opens end (after-fault p fits ∙ sym (high (setRules p) (afterRules p) n n fault under refl le)) (ltb-true end n u)))
-      (λ u. rw (t, u) (others-right p rules sorted opens _ (inl refl) (hold-append (setRules p) (afterRules p) (set-all p held) (after-hold p fits (ltb-false end n u))))))
+      (λ u. rw (t, u) (others-wrong p rules sorted opens end (after-fault p fits ∙ sym (high (setRules p) (afterRules p) n n fault under refl le)) (ltb-true end n u) (end-fits p (key .0))))
+      (λ u. rw (t, u) (others-right p rules sorted opens Done (inl refl) (hold-append (setRules p) (afterRules p) (set-all p held) (after-hold p fits (ltb-false end n u))))))
 
--- A page whose length isn't wrong is answered 8 with the lowest byte at which a rule breaks, or every rule holds and it is done or a fifth supplemental key.
-pub page-verdict : (p : List ℕ) (scope mode count : ℕ) → lengthWrong keyFrom p ≡ false → Verdict (pageRules p scope mode) (checked p scope mode count)
+-- A page's answer is judged by the lowest byte at which a rule breaks.
+pub page-verdict : (p : List ℕ) (scope mode count : ℕ) → Verdict p (pageRules p scope mode) (checked p scope mode count)
 unfolding checked innerRules publicPage
-page-verdict p scope mode count e =
+page-verdict p scope mode count =
+    cases (lengthWrong keyFrom p) (λ e. rw e (judged-short keyFrom (pageRules p scope mode) p _ e refl))
+    (λ e.
     let long = right-length keyFrom p e .0 in
     let n = length p in
     let fault = breach (openRules p) n in
@@ -207,37 +239,14 @@ page-verdict p scope mode count e =
     cases (ltb fault n)
     (λ t.
     let lt = ltb-true fault n t in
-    rw (e, t) (inl (record { told = refl; fault = lowest-of (pageRules p scope mode) n fault (page-sorted p scope mode) (sym (low (openRules p) (innerRules p scope mode) n n fault refl lt)) lt })))
+    let below = breach-under (openRules p) n 5 (open-under p) lt in
+    rw (e, t) (judged-wrong keyFrom (pageRules p scope mode) p _ fault (lowest-of (pageRules p scope mode) n fault (page-sorted p scope mode) (sym (low (openRules p) (innerRules p scope mode) n n fault refl lt)) lt) lt (omega arith) refl))
     (λ t.
     let opens = kept (openRules p) n n under (ltb-false fault n t) in
-    cases (isPublic p) (λ u. rw (e, t, u) (others-right p [] tt opens _ (inl refl) tt))
-    (λ u. cases (sdkOf p) (λ v. rw (e, t, u, v) (supplemental-verdict p long opens scope mode count)) (λ v. rw (e, t, u, v) (set-verdict p long opens))))
+    cases (isPublic p) (λ u. rw (e, t, u) (others-right p [] tt opens Done (inl refl) tt))
+    (λ u. cases (sdkOf p) (λ v. rw (e, t, u, v) (supplemental-verdict p long opens scope mode count)) (λ v. rw (e, t, u, v) (set-verdict p long opens)))))
 
 -- a page whose length is wrong is answered 7
-pub length-verdict : (p : List ℕ) (scope mode count : ℕ) → lengthWrong keyFrom p ≡ true → checked p scope mode count ≡ refusedPage PageLengthWrong 0
+pub length-verdict : (p : List ℕ) (scope mode count : ℕ) → lengthWrong keyFrom p ≡ true → checked p scope mode count ≡ refusedPage PageLengthWrong
 unfolding checked
 length-verdict p scope mode count e = rw e refl
-
-module _ (p : List ℕ) (scope mode count : ℕ) where
-  -- what follows from an answer that isn't 7
-  not-seven : {C : Type 0} (a : Answer) → (numberOf a ≡ 7 → ⊥) → checked p scope mode count .answer ≡ a → (Verdict (pageRules p scope mode) (checked p scope mode count) → C) → C
-  not-seven a n e f =
-      cases (lengthWrong keyFrom p) (λ t. differ PageLengthWrong a (λ z. n (sym z)) (ap (λ (x : Checked). x .answer) (length-verdict p scope mode count t)) e) (λ t. f (page-verdict p scope mode count t))
-
-  -- Where the answer is 8, a rule of the page breaks at the faulty byte, and none at a lower byte.
-  pub wrong-is-lowest : checked p scope mode count .answer ≡ FieldWrong → Lowest (checked p scope mode count .fault) (pageRules p scope mode)
-  wrong-is-lowest e =
-      not-seven FieldWrong (λ z. omega arith) e
-      (λ v. ⊎-elim (λ w. w .fault) (λ r. ⊎-elim (λ d. differ Done FieldWrong (λ z. omega arith) d e) (λ d. differ FifthSupplementalKey FieldWrong (λ z. omega arith) d e) (r .told)) v)
-
-  -- where it is an answer that isn't 7 or 8, every rule holds
-  holds-of : (a : Answer) → (numberOf a ≡ 7 → ⊥) → (numberOf a ≡ 8 → ⊥) → checked p scope mode count .answer ≡ a → AllHold (pageRules p scope mode)
-  holds-of a n m e = not-seven a n e (λ v. ⊎-elim (λ w. differ FieldWrong a (λ z. m (sym z)) (w .told) e) (λ r. r .holds) v)
-
-  -- Where the page is done, no rule breaks,
-  pub done-breaks-none : checked p scope mode count .answer ≡ Done → (i : ℕ) → BreaksAt i (pageRules p scope mode) → ⊥
-  done-breaks-none e i b = hold-none (pageRules p scope mode) i (holds-of Done (λ z. omega arith) (λ z. omega arith) e) b
-
-  -- nor where it brings a fifth supplemental key.
-  pub fifth-breaks-none : checked p scope mode count .answer ≡ FifthSupplementalKey → (i : ℕ) → BreaksAt i (pageRules p scope mode) → ⊥
-  fifth-breaks-none e i b = hold-none (pageRules p scope mode) i (holds-of FifthSupplementalKey (λ z. omega arith) (λ z. omega arith) e) b

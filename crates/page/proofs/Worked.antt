@@ -169,48 +169,48 @@ taken =
 abbrev refusals : List Row
 refusals =
     -- P3: "K cut to 51 bytes: 7"; one byte more; fewer than 20 bytes
-    first (take 51 k) (refusedPage PageLengthWrong 0)
-    ∷ first (k ++ 0 ∷ []) (refusedPage PageLengthWrong 0)
-    ∷ first (page (replicate 15 0)) (refusedPage PageLengthWrong 0)
+    first (take 51 k) (refusedPage PageLengthWrong)
+    ∷ first (k ++ 0 ∷ []) (refusedPage PageLengthWrong)
+    ∷ first (page (replicate 15 0)) (refusedPage PageLengthWrong)
     -- the page code
-    ∷ first (0x00 ∷ 0x11 ∷ 0x00 ∷ 16 ∷ replicate 16 0) (refusedPage FieldWrong 0)
+    ∷ first (0x00 ∷ 0x11 ∷ 0x00 ∷ 16 ∷ replicate 16 0) (refusedPage (FieldWrong 0))
     -- P3: "K with SCOPE 3 (byte 4 61h): 8"; a reserved bit of byte 4
-    ∷ first (k4 0x61) (refusedPage FieldWrong 4)
-    ∷ first (k4 0x23) (refusedPage FieldWrong 4)
+    ∷ first (k4 0x61) (refusedPage (FieldWrong 4))
+    ∷ first (k4 0x23) (refusedPage (FieldWrong 4))
     -- RDMC 01b under ENCRYPT
-    ∷ first (k5 0x54) (refusedPage FieldWrong 5)
+    ∷ first (k5 0x54) (refusedPage (FieldWrong 5))
     -- modes that there are not
-    ∷ first (modes 3 2 key) (refusedPage FieldWrong 6)
-    ∷ first (modes 2 4 key) (refusedPage FieldWrong 7)
+    ∷ first (modes 3 2 key) (refusedPage (FieldWrong 6))
+    ∷ first (modes 2 4 key) (refusedPage (FieldWrong 7))
     -- the algorithm index, the formats, the first and the last of bytes 11 to 17
-    ∷ first (kPlain (0 ∷ replicate 9 0)) (refusedPage FieldWrong 8)
-    ∷ first (kPlain (1 ∷ 1 ∷ replicate 8 0)) (refusedPage FieldWrong 9)
-    ∷ first (kPlain (1 ∷ 0 ∷ 1 ∷ replicate 7 0)) (refusedPage FieldWrong 10)
-    ∷ first (kPlain (1 ∷ 0 ∷ 0 ∷ 1 ∷ replicate 6 0)) (refusedPage FieldWrong 11)
-    ∷ first (kPlain (1 ∷ 0 ∷ 0 ∷ (replicate 6 0 ++ 1 ∷ []))) (refusedPage FieldWrong 17)
+    ∷ first (kPlain (0 ∷ replicate 9 0)) (refusedPage (FieldWrong 8))
+    ∷ first (kPlain (1 ∷ 1 ∷ replicate 8 0)) (refusedPage (FieldWrong 9))
+    ∷ first (kPlain (1 ∷ 0 ∷ 1 ∷ replicate 7 0)) (refusedPage (FieldWrong 10))
+    ∷ first (kPlain (1 ∷ 0 ∷ 0 ∷ 1 ∷ replicate 6 0)) (refusedPage (FieldWrong 11))
+    ∷ first (kPlain (1 ∷ 0 ∷ 0 ∷ (replicate 6 0 ++ 1 ∷ []))) (refusedPage (FieldWrong 17))
     -- a key too short, one that no mode needs, and one that runs past the page's end
-    ∷ first (modes 2 2 (rising 31 1)) (refusedPage FieldWrong 18)
-    ∷ first (modes 0 1 key) (refusedPage FieldWrong 18)
-    ∷ first (page (0x21 ∷ 0x44 ∷ 2 ∷ 2 ∷ (plain ++ 0 ∷ 32 ∷ rising 31 1))) (refusedPage FieldWrong 18)
+    ∷ first (modes 2 2 (rising 31 1)) (refusedPage (FieldWrong 18))
+    ∷ first (modes 0 1 key) (refusedPage (FieldWrong 18))
+    ∷ first (page (0x21 ∷ 0x44 ∷ 2 ∷ 2 ∷ (plain ++ 0 ∷ 32 ∷ rising 31 1))) (refusedPage (FieldWrong 18))
     -- P10: "of 33: 8; of 0: 8", at the length of the descriptor that stands at byte 52
-    ∷ first (kThen (ukad 33)) (refusedPage FieldWrong 54)
-    ∷ first (kThen (ukad 0)) (refusedPage FieldWrong 54)
+    ∷ first (kThen (ukad 33)) (refusedPage (FieldWrong 54))
+    ∷ first (kThen (ukad 0)) (refusedPage (FieldWrong 54))
     -- "Without ENCRYPT the list is empty", with a key and without
-    ∷ first (page (body 0x21 0x44 0 2 plain key (ukad 1))) (refusedPage FieldWrong 52)
-    ∷ first (page (body 0x21 0x44 0 0 plain [] (ukad 1))) (refusedPage FieldWrong 20)
+    ∷ first (page (body 0x21 0x44 0 2 plain key (ukad 1))) (refusedPage (FieldWrong 52))
+    ∷ first (page (body 0x21 0x44 0 0 plain [] (ukad 1))) (refusedPage (FieldWrong 20))
     -- SDK 1 from a PUBLIC nexus, with another scope, and with a reserved bit
-    ∷ first (supplemental 0x20 2 []) (refusedPage FieldWrong 4)
-    ∷ next 0 (supplemental 0x40 2 []) (refusedPage FieldWrong 4)
-    ∷ next 0 (supplemental 0x22 2 []) (refusedPage FieldWrong 4)
+    ∷ first (supplemental 0x20 2 []) (refusedPage (FieldWrong 4))
+    ∷ next 0 (supplemental 0x40 2 []) (refusedPage (FieldWrong 4))
+    ∷ next 0 (supplemental 0x22 2 []) (refusedPage (FieldWrong 4))
     -- with another mode than the set's, and with one that doesn't decrypt
-    ∷ next 0 (supplemental 0x20 3 []) (refusedPage FieldWrong 7)
-    ∷ record { page = supplemental 0x20 1 []; scope = 1; mode = 1; count = 0; outcome = refusedPage FieldWrong 7 }
+    ∷ next 0 (supplemental 0x20 3 []) (refusedPage (FieldWrong 7))
+    ∷ record { page = supplemental 0x20 1 []; scope = 1; mode = 1; count = 0; outcome = refusedPage (FieldWrong 7) }
     -- with a descriptor after the key, and with a byte
-    ∷ next 0 (supplemental 0x20 2 (ukad 1)) (refusedPage FieldWrong 52)
-    ∷ next 0 (supplemental 0x20 2 (0 ∷ [])) (refusedPage FieldWrong 52)
+    ∷ next 0 (supplemental 0x20 2 (ukad 1)) (refusedPage (FieldWrong 52))
+    ∷ next 0 (supplemental 0x20 2 (0 ∷ [])) (refusedPage (FieldWrong 52))
     -- "Then answer 9 if the set has 4 already", after every answer 8
-    ∷ next 4 (supplemental 0x20 2 []) (refusedPage FifthSupplementalKey 0)
-    ∷ next 4 (supplemental 0x20 2 (0 ∷ [])) (refusedPage FieldWrong 52)
+    ∷ next 4 (supplemental 0x20 2 []) (refusedPage FifthSupplementalKey)
+    ∷ next 4 (supplemental 0x20 2 (0 ∷ [])) (refusedPage (FieldWrong 52))
     ∷ []
 
 -- what the definition gives

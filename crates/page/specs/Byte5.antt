@@ -32,4 +32,4 @@ Byte5Fault p = RdmcFault p ⊎ CeemFault p
 
 -- answer 8, at byte i
 abbrev pub WrongAt : ℕ → Checked → Type 0
-WrongAt i c = (c .answer ≡ FieldWrong) × (c .fault ≡ i)
+WrongAt i c = c .answer ≡ FieldWrong i

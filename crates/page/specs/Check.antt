@@ -1,4 +1,4 @@
--- Document 01, "The Set Data Encryption page (0010h)": the whole check.
+-- Document 01, "The Set Data Encryption page (0010h)": the whole check. Answer 8 carries the faulty byte (document 02, request 6).
 -- Besides the page it is given the nexus's scope, its set's decryption mode and its count of supplemental keys.
 use Prim.Native.Nat.{ℕ, _+_}
 use mathlib.Core.Bool.{Bool, true, false}
@@ -21,12 +21,11 @@ use Rattle.page.specs.declared.Checked.{Checked}
 abbrev pub noPage : Page
 noPage = record { scope = 0; lock = false; supplemental = false; fields = noFields }
 
--- answer 8 has the faulty byte's number; any other refusal 0
-abbrev pub refusedPage : Answer → ℕ → Checked
-refusedPage answer fault = record { answer = answer; sense = senseOf answer; fault = fault; page = noPage }
+abbrev pub refusedPage : Answer → Checked
+refusedPage answer = record { answer = answer; sense = senseOf answer; page = noPage }
 
 abbrev pub acceptedPage : Page → Checked
-acceptedPage page = record { answer = Done; sense = senseOf Done; fault = 0; page = page }
+acceptedPage page = record { answer = Done; sense = senseOf Done; page = page }
 
 -- "With PUBLIC, past the page code and length only SCOPE and LOCK are read"
 unfoldable pub publicPage : Bool → Checked
@@ -36,8 +35,8 @@ publicPage lock = acceptedPage (record { scope = publicScope; lock = lock; suppl
 unfoldable pub supplementalPage : List ℕ → ℕ → ℕ → ℕ → Checked
 supplementalPage p scope mode count =
     let fault = breach (supplementalRules p scope mode) (length p) in
-    if ltb fault (length p) then refusedPage FieldWrong fault
-    else if leb supplementalMost count then refusedPage FifthSupplementalKey 0
+    if ltb fault (length p) then refusedPage (FieldWrong fault)
+    else if leb supplementalMost count then refusedPage FifthSupplementalKey
     else acceptedPage (record { scope = scopeOf p; lock = false; supplemental = true; fields = onlyKey (keyOf p) })
 
 -- what a page says that makes a set
@@ -49,16 +48,16 @@ unfoldable pub setPage : List ℕ → Checked
 setPage p =
     let fault = breach (setRules p) (length p) in
     let end = keyEnd p + listedOf p .good in
-    if ltb fault (length p) then refusedPage FieldWrong fault
-    else if ltb end (length p) then refusedPage FieldWrong end
+    if ltb fault (length p) then refusedPage (FieldWrong fault)
+    else if ltb end (length p) then refusedPage (FieldWrong end)
     else acceptedPage (setSaid p)
 
 -- "Answer 7: fewer than 20 bytes, or page length plus 4 isn't the byte count. Answer 8 in every other fault"
 unfoldable pub checked : List ℕ → ℕ → ℕ → ℕ → Checked
 checked p scope mode count =
     let fault = breach (openRules p) (length p) in
-    if lengthWrong keyFrom p then refusedPage PageLengthWrong 0
-    else if ltb fault (length p) then refusedPage FieldWrong fault
+    if lengthWrong keyFrom p then refusedPage PageLengthWrong
+    else if ltb fault (length p) then refusedPage (FieldWrong fault)
     else if isPublic p then publicPage (lockOf p)
     else if sdkOf p then supplementalPage p scope mode count
     else setPage p

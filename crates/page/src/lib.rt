@@ -28,11 +28,10 @@ pub struct Page {
     pub fields: Fields,
 }
 
-// What the check answers, the faulty byte (0 but for answer 8), and the page (zeros where refused).
+// What the check answers, and the page (zeros where refused).
 pub struct Checked {
     pub answer: Answer,
     pub sense: Sense,
-    pub fault: usize,
     pub page: Page,
 }
 

@@ -55,13 +55,12 @@ fn set_byte_5(b: u8) -> SetByte5
     }
 }
 
-fn refuse(answer: Answer, fault: usize) -> Checked
-    ensures { λ r. ⌜ r ≡ refusedPage answer fault ⌝ }
+fn refuse(answer: Answer) -> Checked
+    ensures { λ r. ⌜ r ≡ refusedPage answer ⌝ }
 {
     Checked {
         answer,
         sense: answer_code::sense_of(answer),
-        fault,
         page: Page::NONE,
     }
 }
@@ -247,21 +246,20 @@ fn check_set(page: &[u8], byte4: SetByte4, byte5: SetByte5) -> Checked
 {
     let fault = set_fault(page, byte4, byte5);
     if fault < page.len() {
-        return refuse(Answer::FieldWrong, fault);
+        return refuse(Answer::FieldWrong(fault));
     }
     let start = KEY_FROM + wire_code::word_at(page, 18);
     let key = wire_code::padded_32(&page[KEY_FROM..start]);
     let list = list_after_key(page[6], &page[start..]);
     let end = start + list.good;
     if end < page.len() {
-        return refuse(Answer::FieldWrong, end);
+        return refuse(Answer::FieldWrong(end));
     }
     let kads = list.kads;
     let fields = set_fields(page, byte5, key, kads);
     Checked {
         answer: Answer::Done,
         sense: Sense::NONE,
-        fault: 0,
         page: Page {
             scope: byte4.scope,
             lock: byte4.lock,
@@ -278,10 +276,10 @@ fn check_supplemental(page: &[u8], byte4: SetByte4, scope: u8, mode: u8, count: 
 {
     let fault = supplemental_fault(page, byte4, scope, mode);
     if fault < page.len() {
-        return refuse(Answer::FieldWrong, fault);
+        return refuse(Answer::FieldWrong(fault));
     }
     if SUPPLEMENTAL_MOST <= count {
-        return refuse(Answer::FifthSupplementalKey, 0);
+        return refuse(Answer::FifthSupplementalKey);
     }
     let start = KEY_FROM + wire_code::word_at(page, 18);
     let key = wire_code::padded_32(&page[KEY_FROM..start]);
@@ -290,7 +288,6 @@ fn check_supplemental(page: &[u8], byte4: SetByte4, scope: u8, mode: u8, count: 
     Checked {
         answer: Answer::Done,
         sense: Sense::NONE,
-        fault: 0,
         page: Page {
             scope: byte4.scope,
             lock: false,
@@ -309,7 +306,6 @@ fn check_public(lock: bool) -> Checked
     Checked {
         answer: Answer::Done,
         sense: Sense::NONE,
-        fault: 0,
         page: read,
     }
 }
@@ -319,12 +315,12 @@ pub fn check(page: &[u8], scope: u8, mode: u8, count: u8) -> Checked
     ensures { λ r. ⌜ r ≡ checked (now (page .entry)) scope mode count ⌝ }
 {
     if wire_code::is_length_wrong(page, KEY_FROM) {
-        return refuse(Answer::PageLengthWrong, 0);
+        return refuse(Answer::PageLengthWrong);
     }
     let byte4 = set_byte_4(page[4]);
     let fault = open_fault(page, byte4);
     if fault < page.len() {
-        return refuse(Answer::FieldWrong, fault);
+        return refuse(Answer::FieldWrong(fault));
     }
     if byte4.scope == PUBLIC {
         return check_public(byte4.lock);

@@ -1,6 +1,6 @@
 -- What is proved beyond the promises of single functions. Each line passes on a theorem under the name by which docs/THEOREMS.md cites it.
 
--- The table of answers is document 01's with document 02's rows, row by row: number, sense bytes, record change.
+-- The table of answers is document 01's with document 02's rows, row by row: number, sense bytes, record change, and of 8 the faulty byte.
 pub use Rattle.answer.proofs.Table.{table as answers-as-printed}
 -- Every call has an answer of that table with its row's sense, and a refused one writes no byte.
 pub use Rattle.drive.proofs.Refusals.{every-call-answers}
@@ -13,9 +13,17 @@ pub use Rattle.text.proofs.Decimal.{decimal-spells}
 pub use Rattle.text.proofs.Worked.{numbers-computed}
 -- Key-associated data written and read back are the same; a list that is accepted, read and written again, has the same bytes.
 pub use Rattle.kad.proofs.RoundTrip.{read-of-written as kad-read-of-written, written-of-read as kad-written-of-read}
--- The faulty byte of a refused page is the lowest at which a rule breaks; of a page that is taken, or refused by answer 9,
--- none breaks.
-pub use Rattle.page.proofs.Lowest.{wrong-is-lowest, done-breaks-none, fifth-breaks-none}
+-- Document 02, request 6: where the page check, or the status reader, answers 8 with a byte, a rule of 01 breaks there and none at a lower byte, over
+-- one list of the rules in 01's order; where it answers 0, or 9, none breaks; the byte is one of the page's; and so 8 is answered wherever a
+-- rule breaks and the length is right.
+pub use Rattle.page.proofs.Judged.{page-judged}
+pub use Rattle.status.proofs.Lowest.{status-judged}
+-- The same of a page that is sent, over every record and nexus; and no other call is answered 8.
+pub use Rattle.drive.proofs.Pointing.{page-points, lowest-told, only-pages-point}
+-- Its sentences, and every two faults of a page, from their bytes; and through the calls.
+pub use Rattle.page.proofs.PointingTable.{sentences-computed as page-sentences-computed, pairs-computed as page-faults-computed}
+pub use Rattle.status.proofs.PointingTable.{sentences-computed as status-sentences-computed, pairs-computed as status-faults-computed}
+pub use Rattle.drive.proofs.PointingTable.{pointing, pointing-proved}
 -- Document 02, request 2: a page is refused at byte 5 exactly where RDMC or CEEM is wrong.
 pub use Rattle.page.proofs.Byte5.{byte-5-due, byte-5-told}
 -- All its pairs, and the lab's page, from their bytes.
@@ -25,9 +33,6 @@ pub use Rattle.page.proofs.CeemTable.{pairs-computed, lab-computed}
 pub use Rattle.drive.proofs.Sending.{page-decides, ceem-refused, place-decides}
 -- Over every record and nexus: its present place, else the lowest empty one, else the lowest whose owner has lock 0, else none.
 pub use Rattle.places.proofs.Finding.{room-due}
--- The same of the status reader: the faulty byte of answer 8 is the lowest at which a rule of the page breaks, and of a page that is read
--- none breaks.
-pub use Rattle.status.proofs.Lowest.{status-lowest}
 -- A status page written and read back shows the same values; one that our reader accepts, written again, has the same bytes, and
 -- its values are in range; what is written for a well-formed record is accepted.
 pub use Rattle.status.proofs.RoundTrip.{read-of-written as status-read-of-written, written-of-read as status-written-of-read, read-in-range, well-formed-accepted, well-formed-read}
@@ -64,7 +69,7 @@ pub use Rattle.drive.proofs.Same.{same-record}
 -- A reply's head has the bytes that stand before the data, and tells its number, its sense and how many bytes of data follow.
 pub use Rattle.command.proofs.Replies.{head-size, head-number, head-sense, head-length}
 -- Every command: its 8 bytes read, and what it orders; every call's reply tells the drive's own answer and record, and its data.
-pub use Rattle.command.proofs.Ordered.{command-read, ordered, call-replied, data-replied}
+pub use Rattle.command.proofs.Ordered.{command-read, ordered, call-replied, data-replied, status-replied}
 -- A batch's data are read back, and its reply tells its verdict, its buffer and its record; one whose events run past its data is unknown.
 pub use Rattle.command.proofs.Ordered.{batch-events, batch-pages, batch-replied, batch-past}
 -- The stored session of the stream, further commands and records taken and given: what is replied is what is printed there.

@@ -41,6 +41,7 @@ pub use Rattle.record_16.proofs.Settled.{load-settles as record-16-load-settles
 pub use Rattle.reply_16.proofs.Settled.{reply-with-settles as reply-16-reply-with-settles}
 pub use Rattle.reply_16.proofs.Settled.{plain-settles as reply-16-plain-settles}
 pub use Rattle.reply_16.proofs.Settled.{unknown-settles as reply-16-unknown-settles}
+pub use Rattle.reply_16.proofs.Settled.{give-out-settles as reply-16-give-out-settles}
 pub use Rattle.reply_16.proofs.Settled.{give-write-settles as reply-16-give-write-settles}
 pub use Rattle.reply_16.proofs.Settled.{give-read-settles as reply-16-give-read-settles}
 pub use Rattle.reply_16.proofs.Settled.{give-status-settles as reply-16-give-status-settles}

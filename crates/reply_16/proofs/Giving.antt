@@ -5,24 +5,30 @@ use mathlib.Core.Path.{_≡_, refl, sym, ap, subst, _∙_}
 use mathlib.Core.Bool.{Bool, true, false}
 use mathlib.Core.List.{List, [], _∷_}
 use native.Mathlib.Omega.{arith}
+use lib.Dec.{eqb}
 use lib.ListN.{length}
 use lib.Seq.{sets}
 use Rattle.arrays.proofs.Base.{if-elim, if-true, if-false}
-use Rattle.answer.specs.Answers.{isDone}
+use Rattle.wire.specs.Numbers.{two}
+use Rattle.wire.proofs.Numbers.{two-lower}
+use Rattle.answer.specs.Answers.{rowOf, faultyByteOf, isDone}
 use Rattle.answer.specs.declared.Answer.{Answer}
+use Rattle.answer.specs.declared.Row.{Row}
 use Rattle.device.specs.Record.{State}
 use Rattle.device.proofs.Selecting.{selected-within}
 use Rattle.device_16.specs.Model.{state, device}
+use Rattle.drive.specs.declared.Command.{Command}
 use Rattle.drive.specs.declared.Block.{Block}
 use Rattle.drive.specs.Restoring.{readValueOf}
-use Rattle.drive.specs.Calls.{write, read}
+use Rattle.drive.specs.Calls.{securityOut, write, read}
 use Rattle.drive.specs.Checks.{answer}
 use Rattle.drive.specs.After.{after}
 use Rattle.drive.specs.Outcomes.{valueOf, decidedPlace}
-use Rattle.drive_16.specs.Outcomes.{writeOutcomeBy, writeOutcome, readOutcomeBy, readOutcome}
+use Rattle.drive_16.specs.Outcomes.{outcomeBy, outcome, writeOutcomeBy, writeOutcome, readOutcomeBy, readOutcome}
+use Rattle.drive_16.specs.declared.Outcome.{Outcome}
 use Rattle.drive_16.specs.declared.WriteOutcome.{WriteOutcome}
 use Rattle.drive_16.specs.declared.ReadOutcome.{ReadOutcome}
-use Rattle.command.specs.Replies.{replyHeadSize, Replied, answered, whenDone, writeReply, readReply}
+use Rattle.command.specs.Replies.{replyHeadSize, Replied, answered, whenDone, pointer, outReply, writeReply, readReply}
 use Rattle.reply_16.specs.Giving.{replyMost, replyOf, replyWith, Given}
 use Rattle.reply_16.specs.declared.Reply.{Reply}
 
@@ -34,24 +40,39 @@ kept x buffer r e p = record { tells = p; holds = sym (ap (sets buffer replyHead
 pub given-as : {x y : Replied} {buffer after : List ℕ} {r : Reply} → x ≡ y → Given x buffer r after → Given y buffer r after
 given-as {x} {y} {buffer} {after} {r} e g = subst (λ (z : Replied). Given z buffer r after) e g
 
--- a reply that has data where its answer is 0
-module _ (a : Answer) (bytes : List ℕ) (s : State) where
-  -- refused: none
-  pub stopped : (b : List ℕ) (r : Reply) → isDone a ≡ false → r ≡ replyWith (device s) a 0 → Given (answered a (whenDone a bytes) s) b r b
-  stopped b r f u =
-      let none : whenDone a bytes ≡ [] = if-false _ _ _ f in
-      kept (answered a (whenDone a bytes) s) b r none (u ∙ ap (λ (l : List ℕ). replyWith (device s) a (length l)) (sym none))
+-- a reply to an answer, with its data
+module _ (a : Answer) (gives : List ℕ) (s : State) where
+  -- where there are none
+  pub stopped : (b : List ℕ) (r : Reply) → gives ≡ [] → r ≡ replyWith (device s) a 0 → Given (answered a gives s) b r b
+  stopped b r none u = kept (answered a gives s) b r none (u ∙ ap (λ (l : List ℕ). replyWith (device s) a (length l)) (sym none))
 
-  -- done: they are stored
-  pub stored : (b : List ℕ) (count : ℕ) {end : List ℕ} {r : Reply} → isDone a ≡ true → count ≡ length bytes → replyHeadSize + count ≤ replyMost
-      → end ≡ sets b replyHeadSize bytes → r ≡ replyWith (device s) a count → Given (answered a (whenDone a bytes) s) b r end
-  stored b count d size small t u =
-      let given : whenDone a bytes ≡ bytes = if-true _ _ _ d in
-      record {
-        tells = u ∙ ap (replyWith (device s) a) (size ∙ ap length (sym given));
-        holds = t ∙ ap (sets b replyHeadSize) (sym given);
-        fits = omega (arith, size, ap length given);
-      }
+  -- where they are these, which are stored
+  pub stored : (bytes b : List ℕ) (count : ℕ) {end : List ℕ} {r : Reply} → gives ≡ bytes → count ≡ length bytes → replyHeadSize + count ≤ replyMost
+      → end ≡ sets b replyHeadSize bytes → r ≡ replyWith (device s) a count → Given (answered a gives s) b r end
+  stored bytes b count given size small t u = record {
+    tells = u ∙ ap (replyWith (device s) a) (size ∙ ap length (sym given));
+    holds = t ∙ ap (sets b replyHeadSize) (sym given);
+    fits = omega (arith, size, ap length given);
+  }
+
+-- the reply to a page, by the row of its answer
+module _ (a : Answer) (s : State) {row : Row} (p : row ≡ rowOf a) where
+  -- not 8: no data
+  pub unpointed : (b : List ℕ) (r : Reply) → eqb (row .number) 8 ≡ false → r ≡ replyWith (device s) a 0 → Given (answered a (pointer a) s) b r b
+  unpointed b r f u = stopped a (pointer a) s b r (if-false _ _ _ (ap (λ (x : Row). eqb (x .number) 8) (sym p) ∙ f)) u
+
+  -- 8: the number of the faulty byte
+  pub pointed : (b : List ℕ) {bytes end : List ℕ} {r : Reply} → eqb (row .number) 8 ≡ true → bytes ≡ two (row .faultyByte % 65536) → end ≡ sets b replyHeadSize bytes
+      → r ≡ replyWith (device s) a 2 → Given (answered a (pointer a) s) b r end
+  pointed b {bytes} t e v u =
+      let told : two (faultyByteOf a) ≡ bytes = sym (e ∙ ap (λ (x : Row). two (x .faultyByte % 65536)) p ∙ two-lower (faultyByteOf a)) in
+      stored a (pointer a) s bytes b 2 (if-true _ _ _ (ap (λ (x : Row). eqb (x .number) 8) (sym p) ∙ t) ∙ told) (ap length told) (omega arith) v u
+
+-- a page that is sent
+pub out-given : (s : State) (command : Command) (page : List ℕ) {o : Outcome} → o ≡ outcome s (securityOut command page)
+    → answered (o .answer) (pointer (o .answer)) (state (o .device)) ≡ outReply s command page
+unfolding outReply outcomeBy
+out-given s command page p = rw p refl
 
 -- the place that is told is a byte
 place-byte : (s : State) (n : ℕ) (a : Answer) → 0 < length (s .sets) → length (s .sets) ≤ 256 → decidedPlace s n a % 256 ≡ decidedPlace s n a

@@ -9,6 +9,8 @@ use Rattle.reply_16.proofs.plain.Reads as plain
 use Rattle.reply_16.proofs.plain.Kinds as plain-kinds
 use Rattle.reply_16.proofs.unknown.Reads as unknown
 use Rattle.reply_16.proofs.unknown.Kinds as unknown-kinds
+use Rattle.reply_16.proofs.give_out.Reads as give-out
+use Rattle.reply_16.proofs.give_out.Kinds as give-out-kinds
 use Rattle.reply_16.proofs.give_write.Reads as give-write
 use Rattle.reply_16.proofs.give_write.Kinds as give-write-kinds
 use Rattle.reply_16.proofs.give_read.Reads as give-read
@@ -28,6 +30,9 @@ plain-settles κs a x y s t p q = same p q
 
 pub unknown-settles : SettlesAnswer 0 unknown-kinds.ps unknown-kinds.r unknown.Post
 unknown-settles κs a x y s t p q = same p q
+
+pub give-out-settles : Settles 2 give-out-kinds.ps give-out-kinds.r (List ℕ) (λ κs s. now (s .1 .1 .1 .0)) give-out.Post
+give-out-settles κs a x y s t p q = both-same (p .tells) (p .holds) (q .tells) (q .holds)
 
 pub give-write-settles : Settles 1 give-write-kinds.ps give-write-kinds.r (List ℕ) (λ κs s. now (s .1 .1 .1 .0)) give-write.Post
 give-write-settles κs a x y s t p q = both-same (p .tells) (p .holds) (q .tells) (q .holds)

@@ -20,20 +20,21 @@ use Rattle.record.specs.Reading.{recordRead}
 use Rattle.record.specs.Good.{goodBytes, recordTaken}
 use Rattle.record_16.specs.Loading.{loaded}
 use Rattle.record_16.specs.declared.Loaded.{Loaded}
-use Rattle.command.specs.Replies.{replyHeadSize, answered, whenDone, valuesHead, valuesBytes, statusReply, takeReply, giveReply}
+use Rattle.command.specs.Replies.{replyHeadSize, answered, whenDone, pointer, valuesHead, valuesBytes, statusReply, takeReply, giveReply}
 use Rattle.reply_16.specs.Giving.{replyMost, replyOf, replyWith, Given}
 use Rattle.reply_16.specs.declared.Reply.{Reply}
-use Rattle.reply_16.proofs.Giving.{stopped, stored}
+use Rattle.reply_16.proofs.Giving.{given-as, stored}
 
 -- the status reader
 module _ (s : State) (page : List ℕ) {read : StatusRead} (p : read ≡ readStatus page) where
-  -- refused: no data
-  pub status-stopped : (b : List ℕ) (r : Reply) → isDone (read .answer) ≡ false → r ≡ replyWith (device s) (read .answer) 0
-      → Given (statusReply s page) b r b
+  -- refused: the reply to a page
+  pub status-refused : {b end : List ℕ} {r : Reply} → isDone (read .answer) ≡ false → Given (answered (read .answer) (pointer (read .answer)) s) b r end
+      → Given (statusReply s page) b r end
   unfolding statusReply
-  status-stopped b r f u =
-      stopped (readStatus page .answer) (valuesBytes (readStatus page .status)) s b r (sym (ap (λ (x : StatusRead). isDone (x .answer)) p) ∙ f)
-      (u ∙ ap (λ (x : StatusRead). replyWith (device s) (x .answer) 0) p)
+  status-refused f g =
+      given-as
+      (ap (λ (x : StatusRead). answered (x .answer) (pointer (x .answer)) s) p
+      ∙ ap (λ (l : List ℕ). answered (readStatus page .answer) l s) (sym (if-false _ _ _ (sym (ap (λ (x : StatusRead). isDone (x .answer)) p) ∙ f)))) g
 
   -- read: the values are stored, then the key-associated data
   pub status-given : (b : List ℕ) (at count : ℕ) {head rest first end : List ℕ} {r : Reply} → isDone (read .answer) ≡ true
@@ -44,7 +45,7 @@ module _ (s : State) (page : List ℕ) {read : StatusRead} (p : read ≡ readSta
       let values = valuesBytes (readStatus page .status) in
       let bytes : head ++ rest ≡ values = (λ i. h i ++ k i) ∙ ap (λ (x : StatusRead). valuesBytes (x .status)) p in
       let counted : count ≡ length values = sym total ∙ sym (length-append head rest) ∙ ap length bytes in
-      stored (readStatus page .answer) values s b count (sym (ap (λ (x : StatusRead). isDone (x .answer)) p) ∙ d) counted small
+      stored (readStatus page .answer) _ s values b count (if-true _ _ _ (sym (ap (λ (x : StatusRead). isDone (x .answer)) p) ∙ d)) counted small
       (v ∙ ap (λ (x : List ℕ). sets x at rest) t ∙ ap (λ (j : ℕ). sets (sets b replyHeadSize head) j rest) (sym size)
       ∙ sets-append b replyHeadSize head rest ∙ ap (sets b replyHeadSize) bytes)
       (u ∙ ap (λ (x : StatusRead). replyWith (device s) (x .answer) count) p)

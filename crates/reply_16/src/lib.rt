@@ -5,6 +5,7 @@ use command::LENT_MOST;
 use command::UNKNOWN;
 use device_16::Device;
 use drive::Block;
+use drive::Command;
 use drive_16::Outcome;
 use record_16::RECORD_SIZE;
 use record_code::KADS_SIZE;
@@ -12,7 +13,7 @@ ghost use mathlib.Core.Path.{_≡_};
 ghost use Prim.Native.Nat.{_+_, _≤_};
 ghost use lib.ListN.{length};
 ghost use Rattle.device_16.specs.Model.{state};
-ghost use Rattle.command.specs.Replies.{replyHeadSize, answered, whenDone, unknownReply, writeReply, readReply, statusReply, takeReply, giveReply};
+ghost use Rattle.command.specs.Replies.{replyHeadSize, answered, whenDone, pointer, unknownReply, outReply, writeReply, readReply, statusReply, takeReply, giveReply};
 ghost use Rattle.reply_16.specs.Giving.{replyMost, replyOf, replyWith, Given};
 
 pub const HEAD_SIZE: usize = 6;
@@ -22,6 +23,9 @@ pub const IN_FROM: usize = HEAD_SIZE + 2;
 
 // Room for every reply: IN's with the largest lent buffer, and the record's, whichever is longer in this model.
 pub const REPLY_MOST: usize = IN_FROM + LENT_MOST as usize + RECORD_SIZE;
+
+// The number of the answer that points to a byte.
+const POINTING: u8 = 8;
 
 // The values of a status page before its key-associated data.
 const VALUES_SIZE: usize = 11;
@@ -82,6 +86,29 @@ fn give(d: Device, answer: Answer, bytes: &[u8], buffer: &mut [u8]) -> Reply
     reply_with(d, answer, bytes.len())
 }
 
+// The reply to a page: where it is answered 8, the number of the faulty byte.
+fn point(d: Device, answer: Answer, buffer: &mut [u8]) -> Reply
+    ensures { λ r. ⌜ Given (answered answer (pointer answer) (state d)) (now (buffer .entry)) r (now (buffer .exit)) ⌝ }
+{
+    let row = answer_code::row_of(answer);
+    if row.number != POINTING {
+        return reply_with(d, answer, 0);
+    }
+    let byte = wire_code::two((row.faultyByte % 65536) as u16);
+    wire_code::put(buffer, HEAD_SIZE, &byte);
+    reply_with(d, answer, 2)
+}
+
+// SECURITY PROTOCOL OUT.
+pub fn give_out(d: Device, command: Command, page: &[u8], buffer: &mut [u8]) -> Reply
+    ensures { λ r. ⌜ Given (outReply (state d) command (now (page .entry))) (now (buffer .entry)) r (now (buffer .exit)) ⌝ }
+{
+    let outcome = drive_16::security_out(d, command, page);
+    let answer = outcome.answer;
+    let after = outcome.device;
+    point(after, answer, buffer)
+}
+
 // The write decision.
 pub fn give_write(d: Device, n: u8, supported: bool, buffer: &mut [u8]) -> Reply
     ensures { λ r. ⌜ Given (writeReply (state d) n supported) (now (buffer .entry)) r (now (buffer .exit)) ⌝ }
@@ -121,7 +148,7 @@ pub fn give_status(d: Device, page: &[u8], buffer: &mut [u8]) -> Reply
     let answer = read.answer;
     let status = read.status;
     if !answer_code::is_done(answer) {
-        return reply_with(d, answer, 0);
+        return point(d, answer, buffer);
     }
     let kads = status.kads;
     let head = command_code::values_head(status);

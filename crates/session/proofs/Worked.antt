@@ -92,6 +92,6 @@ pub worked : T (replayed table)
 unfolding replayed table joined parts formOf entryOf sound call headed soundFile eventOf askedOf answersFrom sameRecord runFrom checks answer effectBy actionsOf changedBy carriedOut changes flagged cleared act acts releases ownPlace room pageActions senderAfter supplemented taken setGood nexusGood ownerIsLocal wellFormed ownedPlace selected powerOn publicPage supplementalPage setPage checked openRules modeRules plainRules keyRules setRules matchRules endRules supplementalRules listOf descriptorRules listed underMode
 worked = tt
 
--- every answer's four bytes are the number and sense of its row as it is printed
-pub four-as-printed : map fourOf everyAnswer ≡ map (λ (r : Row). four (r .number) (r .sense .key) (r .sense .asc) (r .sense .ascq)) printed
-four-as-printed = refl
+-- every answer's four bytes are the number and sense of its row as it is printed, whatever byte 8 carries
+pub four-as-printed : (byte : ℕ) → map fourOf (everyAnswer byte) ≡ map (λ (r : Row). four (r .number) (r .sense .key) (r .sense .asc) (r .sense .ascq)) (printed byte)
+four-as-printed byte = refl

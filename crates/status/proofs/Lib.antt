@@ -3,3 +3,4 @@ pub mod Reading
 pub mod Lowest
 pub mod RoundTrip
 pub mod Worked
+pub mod PointingTable

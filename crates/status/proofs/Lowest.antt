@@ -1,24 +1,24 @@
--- The faulty byte of the status reader's answer 8 is the lowest byte at which a rule of the page breaks.
+-- Document 02, request 6, of the status reader: the byte of answer 8 is the lowest at which a rule of 01 breaks, whatever order the rules are
+-- tested in.
 -- Assumes nothing.
-use mathlib.Core.Path.{_≡_, refl}
-use mathlib.Core.Logic.{⊎-elim}
+use mathlib.Core.Path.{refl}
+use mathlib.Core.Logic.{inl, inr, ⊎-elim}
 use mathlib.Core.List.{List}
 use Prim.Native.Nat.{ℕ}
 use native.Mathlib.Nat.{le-refl}
 use native.Mathlib.Omega.{arith}
 use lib.ListN.{length, drop}
-use Rattle.wire.specs.Rules.{breach}
+use Rattle.wire.specs.Rules.{breach, BreaksAt}
 use Rattle.wire.proofs.Rules.{AllHold, Sorted, sorted-append, zeros-sorted, hold-append}
-use Rattle.wire.proofs.Lowest.{lowest-of, hold-none}
-use Rattle.answer.specs.declared.Answer.the-variants.{Done, PageLengthWrong, FieldWrong}
-use Rattle.answer.proofs.Numbers.{differ}
+use Rattle.wire.proofs.Lowest.{lowest-of, Same, breaks-left, breaks-right, breaks-either}
 use Rattle.kad.specs.Kad.{noKads}
 use Rattle.kad.specs.declared.Seen.the-variants.{Nothing}
 use Rattle.kad.proofs.Lowest.{list-sorted, list-hold}
+use Rattle.pointing.specs.Judged.{Judged}
+use Rattle.pointing.proofs.Judging.{judged-short, judged-wrong, judged-right, judged-same}
 use Rattle.status.specs.Rules.{descriptorsFrom, zerosFrom, zeroBytes, scopeRules, fieldRules, headRules, statusRules}
 use Rattle.status.specs.Reading.{readStatus}
-use Rattle.status.specs.Lowest.{Judged}
-use Rattle.status.specs.declared.StatusRead.{StatusRead}
+use Rattle.status.specs.Lowest.{zeros, codes, everyHeadRule, everyStatusRule}
 use Rattle.status.proofs.Reading.{open-under, head-under, descriptorsRules, Accepted, ways}
 
 -- ---- the rules stand in the order of their bytes
@@ -44,6 +44,52 @@ status-sorted p =
     let rest = drop descriptorsFrom p in
     sorted-append (headRules p) (descriptorsRules p) 0 descriptorsFrom (head-sorted p) (head-under p) (omega arith) (list-sorted (length rest) descriptorsFrom rest Nothing)
 
+-- ---- the same rules in 01's order and in that of their bytes
+
+module _ (p : List ℕ) (i : ℕ) where
+  -- in 01's order: a code
+  head-code : BreaksAt i (codes p) → BreaksAt i (everyHeadRule p)
+  unfolding everyHeadRule
+  head-code x = inr (inr (inr (breaks-right i (zeros p) (codes p) x)))
+
+  head-to : BreaksAt i (headRules p) → BreaksAt i (everyHeadRule p)
+  unfolding headRules scopeRules fieldRules everyHeadRule
+  head-to =
+      breaks-either i (scopeRules p) (fieldRules p)
+      (⊎-elim inl
+      (⊎-elim (λ x. head-code (inl x)) (⊎-elim (λ x. inr (inl x)) (⊎-elim (λ x. head-code (inr (inl x))) (λ x. absurd x)))))
+      (⊎-elim (λ x. head-code (inr (inr (inl x))))
+      (⊎-elim (λ x. head-code (inr (inr (inr (inl x)))))
+      (⊎-elim (λ x. head-code (inr (inr (inr (inr (inl x))))))
+      (⊎-elim (λ x. inr (inr (inl x))) (λ x. inr (inr (inr (breaks-left i (zeros p) (codes p) x))))))))
+
+  -- in the order of their bytes
+  head-open : BreaksAt i (scopeRules p) → BreaksAt i (headRules p)
+  unfolding headRules
+  head-open x = breaks-left i (scopeRules p) (fieldRules p) x
+
+  head-field : BreaksAt i (fieldRules p) → BreaksAt i (headRules p)
+  unfolding headRules
+  head-field x = breaks-right i (scopeRules p) (fieldRules p) x
+
+  head-from : BreaksAt i (everyHeadRule p) → BreaksAt i (headRules p)
+  unfolding scopeRules fieldRules everyHeadRule
+  head-from =
+      ⊎-elim (λ x. head-open (inl x))
+      (⊎-elim (λ x. head-open (inr (inr (inl x))))
+      (⊎-elim (λ x. head-field (inr (inr (inr (inl x)))))
+      (breaks-either i (zeros p) (codes p) (λ x. head-field (inr (inr (inr (inr x)))))
+      (⊎-elim (λ x. head-open (inr (inl x)))
+      (⊎-elim (λ x. head-open (inr (inr (inr (inl x)))))
+      (⊎-elim (λ x. head-field (inl x)) (⊎-elim (λ x. head-field (inr (inl x))) (⊎-elim (λ x. head-field (inr (inr (inl x)))) (λ x. absurd x)))))))))
+
+-- all of them
+rules-same : (p : List ℕ) → Same (statusRules p) (everyStatusRule p)
+rules-same p = record {
+  to = λ i. breaks-either i (headRules p) (descriptorsRules p) (λ x. breaks-left i (everyHeadRule p) (descriptorsRules p) (head-to p i x)) (λ x. breaks-right i (everyHeadRule p) (descriptorsRules p) x);
+  from = λ i. breaks-either i (everyHeadRule p) (descriptorsRules p) (λ x. breaks-left i (headRules p) (descriptorsRules p) (head-from p i x)) (λ x. breaks-right i (headRules p) (descriptorsRules p) x);
+}
+
 -- ---- the lowest byte
 
 -- every rule of an accepted page holds
@@ -53,27 +99,16 @@ all-hold p a =
     hold-append (headRules p) (descriptorsRules p) (a .head)
     (list-hold (length rest) descriptorsFrom rest Nothing noKads (le-refl (length rest)) (omega (arith, a .list)))
 
--- a reading that isn't answered 8
-unbroken : (p : List ℕ) (r : StatusRead) → (r .answer ≡ FieldWrong → ⊥) → r .fault ≡ 0 → (r .answer ≡ Done → AllHold (statusRules p)) → Judged p r
-unbroken p r n z h = record {
-  lowest = λ w. absurd (n w);
-  within = λ w. absurd (n w);
-  none = λ d i b. hold-none (statusRules p) i (h d) b;
-  zero = λ _. z;
-}
-
--- The faulty byte of answer 8 is the lowest byte at which a rule of the status page breaks, and is one of the page's; of a page that is read
--- none breaks.
-pub status-lowest : (p : List ℕ) → Judged p (readStatus p)
-status-lowest p =
+-- over the rules in the order of their bytes
+status-verdict : (p : List ℕ) → Judged descriptorsFrom (statusRules p) p (readStatus p .answer)
+status-verdict p =
     let fault = breach (statusRules p) (length p) in
-    ⊎-elim (λ e. rw e (unbroken p _ (λ w. differ PageLengthWrong FieldWrong (λ z. omega arith) refl w) refl (λ d. differ PageLengthWrong Done (λ z. omega arith) refl d)))
-    (λ x.
-    ⊎-elim (λ b. rw (b .is) (record {
-      lowest = λ _. lowest-of (statusRules p) (length p) fault (status-sorted p) refl (b .before);
-      within = λ _. b .before;
-      none = λ d. differ FieldWrong Done (λ z. omega arith) refl d;
-      zero = λ n. absurd (n refl);
-    }))
-    (λ a. rw (a .is) (unbroken p _ (λ w. differ Done FieldWrong (λ z. omega arith) refl w) refl (λ _. all-hold p a))) x)
+    ⊎-elim (λ e. rw (e .1) (judged-short descriptorsFrom (statusRules p) p _ (e .0) refl))
+    (⊎-elim (λ b. rw (b .is) (judged-wrong descriptorsFrom (statusRules p) p _ fault (lowest-of (statusRules p) (length p) fault (status-sorted p) refl (b .before)) (b .before) (b .small) refl))
+    (λ a. rw (a .is) (judged-right descriptorsFrom (statusRules p) p _ (all-hold p a) (inl refl))))
     (ways p)
+
+-- If the answer is 8 with byte b, a rule of 01 breaks at b, which is a byte of the page, and none at a lower byte; if it is 0, none breaks; and
+-- unless the length is wrong, 8 is answered wherever a rule breaks.
+pub status-judged : (p : List ℕ) → Judged descriptorsFrom (everyStatusRule p) p (readStatus p .answer)
+status-judged p = judged-same descriptorsFrom (statusRules p) (everyStatusRule p) p _ (rules-same p) (status-verdict p)

@@ -4,7 +4,7 @@ use mathlib.Core.Path.{_≡_, refl, sym, ap, _∙_}
 use mathlib.Core.Bool.{true, false}
 use mathlib.Core.Logic.{_⊎_, inl, inr, ⊎-elim}
 use mathlib.Core.List.{List}
-use Prim.Native.Nat.{ℕ, _+_, _<_, _≤_}
+use Prim.Native.Nat.{ℕ, _+_, _^_, _<_, _≤_}
 use native.Mathlib.Nat.{le-refl}
 use native.Mathlib.Omega.{arith}
 use borrow.Author.Tests.{eqb-true, eq-eqb, ltb-true, ltb-false, lt-ltb, le-ltb, leb-true, le-leb}
@@ -23,6 +23,7 @@ use Rattle.kad.specs.Reading.{readKads}
 use Rattle.kad.specs.Rules.{listRules}
 use Rattle.kad.specs.declared.Seen.the-variants.{Nothing}
 use Rattle.kad.proofs.Reading.{reading-le}
+use Rattle.kad.proofs.Few.{list-few}
 use Rattle.kad.proofs.Lowest.{first-fault}
 use Rattle.status.specs.Bytes.{statusByte4, statusByte12}
 use Rattle.status.specs.Pages.{statusCode}
@@ -59,7 +60,7 @@ descriptorsRules p = listRules (length (drop descriptorsFrom p)) descriptorsFrom
 
 module _ (p : List ℕ) where
   -- a wrong length
-  pub refused-length : lengthWrong descriptorsFrom p ≡ true → readStatus p ≡ refusedStatus PageLengthWrong 0
+  pub refused-length : lengthWrong descriptorsFrom p ≡ true → readStatus p ≡ refusedStatus PageLengthWrong
   unfolding readStatus
   refused-length e = rw e refl
 
@@ -69,7 +70,7 @@ module _ (p : List ℕ) where
     long = right-length descriptorsFrom p l .0
 
     -- a rule breaks before the page's end
-    pub refused-field : (i : ℕ) → i ≡ breach (statusRules p) (length p) → i < length p → readStatus p ≡ refusedStatus FieldWrong i
+    pub refused-field : (i : ℕ) → i ≡ breach (statusRules p) (length p) → i < length p → readStatus p ≡ refusedStatus (FieldWrong i)
     unfolding readStatus
     refused-field i e h = rw (l, ← e, lt-ltb i (length p) h) refl
 
@@ -86,7 +87,7 @@ module _ (p : List ℕ) where
         rw (← ends) (first-fault (length rest) descriptorsFrom rest Nothing noKads (le-refl (length rest)))
 
     -- a breach in the first 24 bytes is that of all
-    pub head-breaks : (i : ℕ) → i ≡ breach (headRules p) descriptorsFrom → i < descriptorsFrom → readStatus p ≡ refusedStatus FieldWrong i
+    pub head-breaks : (i : ℕ) → i ≡ breach (headRules p) descriptorsFrom → i < descriptorsFrom → readStatus p ≡ refusedStatus (FieldWrong i)
     head-breaks i e h =
         refused-field i (sym (low (headRules p) (descriptorsRules p) (length p) descriptorsFrom i e h)) (omega (arith, long))
 
@@ -96,7 +97,7 @@ module _ (p : List ℕ) where
 
     -- a fault in the list
     pub list-breaks : (i end : ℕ) → i ≡ breach (headRules p) descriptorsFrom → descriptorsFrom ≤ i → end ≡ descriptorsFrom + readKads (drop descriptorsFrom p) .good → end < length p
-        → readStatus p ≡ refusedStatus FieldWrong end
+        → readStatus p ≡ refusedStatus (FieldWrong end)
     list-breaks i end e h g b = refused-field end (g ∙ list-decides i e h) b
 
     -- no fault at all
@@ -129,18 +130,29 @@ none-breaks p l h =
       is = accepted p l h;
     }
 
+-- the first rule that breaks, before the page's end, points to a byte of which two bytes hold the number
+small-fault : (p : List ℕ) → lengthWrong descriptorsFrom p ≡ false → breach (statusRules p) (length p) < length p → breach (statusRules p) (length p) < 2 ^ 16
+small-fault p l h =
+    let fault = breach (headRules p) descriptorsFrom in
+    cases (ltb fault descriptorsFrom)
+    (λ t. let b = ltb-true fault descriptorsFrom t in rw (low (headRules p) (descriptorsRules p) (length p) descriptorsFrom fault refl b) (omega arith))
+    (λ t.
+    let rest = drop descriptorsFrom p in
+    omega (arith, list-decides p l fault refl (ltb-false fault descriptorsFrom t), list-few (length rest) rest noKads))
+
 -- a page in which a rule breaks before its end
 pub record Broken (p : List ℕ) : Type 0 where
   pub before : breach (statusRules p) (length p) < length p
-  pub is : readStatus p ≡ refusedStatus FieldWrong (breach (statusRules p) (length p))
+  pub small : breach (statusRules p) (length p) < 2 ^ 16
+  pub is : readStatus p ≡ refusedStatus (FieldWrong (breach (statusRules p) (length p)))
 
 -- each page has a wrong length, or a rule breaks, or it is accepted
-pub ways : (p : List ℕ) → (readStatus p ≡ refusedStatus PageLengthWrong 0) ⊎ (Broken p ⊎ Accepted p)
+pub ways : (p : List ℕ) → ((lengthWrong descriptorsFrom p ≡ true) × (readStatus p ≡ refusedStatus PageLengthWrong)) ⊎ (Broken p ⊎ Accepted p)
 ways p =
     let fault = breach (statusRules p) (length p) in
-    cases (lengthWrong descriptorsFrom p) (λ w. inl (refused-length p w))
+    cases (lengthWrong descriptorsFrom p) (λ w. inl (w, refused-length p w))
     (λ l.
-    cases (ltb fault (length p)) (λ t. let b = ltb-true fault (length p) t in inr (inl (record { before = b; is = refused-field p l fault refl b })))
+    cases (ltb fault (length p)) (λ t. let b = ltb-true fault (length p) t in inr (inl (record { before = b; small = small-fault p l b; is = refused-field p l fault refl b })))
     (λ t. inr (inr (none-breaks p l (ltb-false fault (length p) t)))))
 
 -- readings that are the same answer the same
@@ -150,8 +162,8 @@ answers e = ap (λ (x : StatusRead). x .answer) e
 -- a page that is answered 0 is accepted
 pub known : (p : List ℕ) → readStatus p .answer ≡ Done → Accepted p
 known p d =
-    ⊎-elim (λ e. differ PageLengthWrong Done (λ z. omega arith) (answers e) d)
-    (λ x. ⊎-elim (λ b. differ FieldWrong Done (λ z. omega arith) (answers (b .is)) d) (λ a. a) x) (ways p)
+    ⊎-elim (λ e. differ PageLengthWrong Done (λ z. omega arith) (answers (e .1)) d)
+    (λ x. ⊎-elim (λ b. differ (FieldWrong _) Done (λ z. omega arith) (answers (b .is)) d) (λ a. a) x) (ways p)
 
 -- what the rules of the first 24 bytes say
 pub record Head (p : List ℕ) : Type 0 where

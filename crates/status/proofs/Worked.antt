@@ -5,7 +5,7 @@ use mathlib.Core.Bool.{true, false}
 use mathlib.Core.List.{List, [], _∷_, _++_, map}
 use lib.ListN.{getD, take, set, replicate}
 use Rattle.answer.specs.declared.Answer.{Answer}
-use Rattle.answer.specs.declared.Answer.the-variants.{Done, PageLengthWrong, FieldWrong}
+use Rattle.answer.specs.declared.Answer.the-variants.{Done, PageLengthWrong}
 use Rattle.kad.specs.Kad.{kadsOf, noKads}
 use Rattle.kad.specs.Reading.{descriptorRules, listed}
 use Rattle.kad.specs.Rules.{listRules}
@@ -94,7 +94,7 @@ p1-read = refl
 -- ---- P2
 
 -- "00 20 00 14 21 02 02 01 00 00 00 01 02, then 11 zeros"
-abbrev p2 : List ℕ
+abbrev pub p2 : List ℕ
 p2 = 0x00 ∷ 0x20 ∷ 0x00 ∷ 0x14 ∷ 0x21 ∷ 0x02 ∷ 0x02 ∷ 0x01 ∷ 0x00 ∷ 0x00 ∷ 0x00 ∷ 0x01 ∷ 0x02 ∷ replicate 11 0
 
 -- what page K sets: modes 2 and 2, index 1, CEEM 1, CKOD, with key-associated data
@@ -151,7 +151,7 @@ abbrev kads : Kads
 kads = kadsOf (0x0A ∷ 0x0B ∷ []) (0x0C ∷ [])
 
 -- the page length counts the bytes after byte 3
-abbrev full : List ℕ
+abbrev pub full : List ℕ
 full =
     0x00 ∷ 0x20 ∷ 0x00 ∷ 0x1F ∷ 0x21 ∷ 0x02 ∷ 0x02 ∷ 0x01 ∷ 0x01 ∷ 0x02 ∷ 0x03 ∷ 0x04 ∷ 0x02
     ∷ (replicate 11 0 ++ 0x00 ∷ 0x00 ∷ 0x00 ∷ 0x02 ∷ 0x0A ∷ 0x0B ∷ 0x01 ∷ 0x00 ∷ 0x00 ∷ 0x01 ∷ 0x0C ∷ [])
@@ -164,13 +164,13 @@ pub full-read : readStatus full ≡ readOf (status 0x01020304 kads)
 unfolding readStatus headRules scopeRules fieldRules listRules descriptorRules listed
 full-read = refl
 
--- ---- what the reader takes, and what it refuses
+-- ---- what the reader takes, and what it refuses for its length; what it refuses at a byte is PointingTable's
 
 -- P2's page with another byte
-abbrev other : ℕ → ℕ → List ℕ
+abbrev pub other : ℕ → ℕ → List ℕ
 other i byte = set p2 i byte
 
-abbrev answerTo : List ℕ → Answer
+abbrev pub answerTo : List ℕ → Answer
 answerTo p = readStatus p .answer
 
 -- "It takes index 0 or 1 and any mixture of modes", every scope and CEEM, and RDMD
@@ -181,32 +181,10 @@ pub takes : map answerTo taken ≡ replicate 7 Done
 unfolding readStatus headRules scopeRules fieldRules listRules listed
 takes = refl
 
--- the pages that are answered 8, each with its faulty byte
-abbrev wrong : List (List ℕ × ℕ)
-wrong =
-    -- another page code; a scope out of range; bits 4–3 of byte 4
-    (other 0 1, 0) ∷ (other 1 0x10, 0)
-    ∷ (other 4 0x61, 4) ∷ (other 4 0x23, 4) ∷ (other 4 0x29, 4) ∷ (other 4 0x31, 4)
-    -- modes, index 2
-    ∷ (other 5 3, 5) ∷ (other 6 4, 6) ∷ (other 7 2, 7)
-    -- VCELB, a control bit, bit 7
-    ∷ (other 12 0x08, 12) ∷ (other 12 0x10, 12) ∷ (other 12 0x20, 12) ∷ (other 12 0x40, 12) ∷ (other 12 0x80, 12)
-    -- bytes 13 to 23
-    ∷ (other 13 1, 13) ∷ (other 18 1, 18) ∷ (other 23 1, 23)
-    -- two faults: the lower byte
-    ∷ (set (other 5 3) 23 1, 5) ∷ (set (other 12 0x08) 6 4, 6)
-    -- a descriptor of type 2; a second byte that isn't zero; no data; the second descriptor cut short
-    ∷ (set full 24 2, 24) ∷ (set full 25 1, 25) ∷ (set full 27 0, 26) ∷ (set full 33 2, 30)
-    ∷ []
-
-pub refuses : map (λ (x : List ℕ × ℕ). readStatus (x .0)) wrong ≡ map (λ (x : List ℕ × ℕ). refusedStatus FieldWrong (x .1)) wrong
-unfolding readStatus headRules scopeRules fieldRules listRules descriptorRules listed
-refuses = refl
-
 -- 23 bytes, with the length that they have and with another; 25 bytes; a length that is counted from byte 0; none
 abbrev misfit : List (List ℕ)
 misfit = set (take 23 p2) 3 0x13 ∷ take 23 p2 ∷ (p2 ++ 0 ∷ []) ∷ other 3 0x18 ∷ [] ∷ []
 
-pub misfits : map readStatus misfit ≡ replicate 5 (refusedStatus PageLengthWrong 0)
+pub misfits : map readStatus misfit ≡ replicate 5 (refusedStatus PageLengthWrong)
 unfolding readStatus
 misfits = refl

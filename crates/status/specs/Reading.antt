@@ -1,5 +1,5 @@
 -- Document 01: "The status reader asks for 24 bytes at least and an exact length, else 7; then page code 0020h, fixed zeros zero,
--- codes in range and descriptors formed as above (under any mode), else 8."
+-- codes in range and descriptors formed as above (under any mode), else 8." Answer 8 carries the faulty byte (document 02, request 6).
 use Prim.Native.Nat.{ℕ}
 use mathlib.Core.Bool.{false}
 use mathlib.Core.List.{List}
@@ -36,7 +36,7 @@ valuesWith p kads = record {
 abbrev pub values : List ℕ → Status
 values p = valuesWith p (readKads (drop descriptorsFrom p) .kads)
 
--- a refusedStatus answer carries its number and sense only, and 8 the faulty byte
+-- a refused page's values
 abbrev pub noStatus : Status
 noStatus = record {
   nexusScope = 0;
@@ -50,16 +50,16 @@ noStatus = record {
   kads = noKads;
 }
 
-abbrev pub refusedStatus : Answer → ℕ → StatusRead
-refusedStatus answer fault = record { answer = answer; sense = senseOf answer; fault = fault; status = noStatus }
+abbrev pub refusedStatus : Answer → StatusRead
+refusedStatus answer = record { answer = answer; sense = senseOf answer; status = noStatus }
 
 -- one that is taken, with its values
 abbrev pub readOf : Status → StatusRead
-readOf status = record { answer = Done; sense = senseOf Done; fault = 0; status = status }
+readOf status = record { answer = Done; sense = senseOf Done; status = status }
 
 unfoldable pub readStatus : List ℕ → StatusRead
 readStatus p =
     let fault = breach (statusRules p) (length p) in
-    if lengthWrong descriptorsFrom p then refusedStatus PageLengthWrong 0
-    else if ltb fault (length p) then refusedStatus FieldWrong fault
+    if lengthWrong descriptorsFrom p then refusedStatus PageLengthWrong
+    else if ltb fault (length p) then refusedStatus (FieldWrong fault)
     else readOf (values p)

@@ -44,10 +44,9 @@ impl Status {
     };
 }
 
-// What reading a status page gives: the answer, the faulty byte (0 but for answer 8), and the values (zeros where refused).
+// What reading a status page gives: the answer, and the values (zeros where refused).
 pub struct StatusRead {
     pub answer: Answer,
     pub sense: Sense,
-    pub fault: usize,
     pub status: Status,
 }

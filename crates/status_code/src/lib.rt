@@ -231,13 +231,12 @@ fn values_with(page: &[u8], kads: Kads) -> Status
     }
 }
 
-fn refuse(answer: Answer, fault: usize) -> StatusRead
-    ensures { λ r. ⌜ r ≡ refusedStatus answer fault ⌝ }
+fn refuse(answer: Answer) -> StatusRead
+    ensures { λ r. ⌜ r ≡ refusedStatus answer ⌝ }
 {
     StatusRead {
         answer,
         sense: answer_code::sense_of(answer),
-        fault,
         status: Status::NONE,
     }
 }
@@ -247,22 +246,21 @@ pub fn read_status(page: &[u8]) -> StatusRead
     ensures { λ r. ⌜ r ≡ readStatus (now (page .entry)) ⌝ }
 {
     if wire_code::is_length_wrong(page, DESCRIPTORS_FROM) {
-        return refuse(Answer::PageLengthWrong, 0);
+        return refuse(Answer::PageLengthWrong);
     }
     let head = head_fault(page);
     if head < DESCRIPTORS_FROM {
-        return refuse(Answer::FieldWrong, head);
+        return refuse(Answer::FieldWrong(head));
     }
     let list = kad_code::read(&page[DESCRIPTORS_FROM..]);
     let end = DESCRIPTORS_FROM + list.good;
     if end < page.len() {
-        return refuse(Answer::FieldWrong, end);
+        return refuse(Answer::FieldWrong(end));
     }
     let kads = list.kads;
     StatusRead {
         answer: Answer::Done,
         sense: Sense::NONE,
-        fault: 0,
         status: values_with(page, kads),
     }
 }

@@ -38,7 +38,7 @@ fn ask(d: Device, asked: Asked, size: usize, page: &[u8], buffer: &mut [u8]) -> 
     match asked {
         Asked::PowerOn => reply_16::plain(drive_16::power_on()),
         Asked::In(command) => give_in(d, command, size, buffer),
-        Asked::Out(command) => reply_16::plain(drive_16::security_out(d, command, page)),
+        Asked::Out(command) => reply_16::give_out(d, command, page, buffer),
         Asked::Write(n, supported) => reply_16::give_write(d, n, supported, buffer),
         Asked::Read(n, block) => reply_16::give_read(d, n, block, buffer),
         Asked::UnitReset => reply_16::plain(drive_16::unit_reset(d)),

@@ -1,5 +1,5 @@
-//! Plays P1 to P10 of document 01, "Proved examples", a restoring host and a bridge board's batch of document 02 and the
-//! recording of a month on a drive program and tells in words what happens.
+//! Plays P1 to P10 of document 01, "Proved examples", the field pointer, a restoring host and a bridge board's batch of
+//! document 02 and the recording of a month on a drive program and tells in words what happens.
 //!
 //! `demo ROOT PROGRAM [ARGUMENT ...]`: ROOT is the repository's root, which has the month in examples/.
 
@@ -9,6 +9,8 @@
 mod bridge_board;
 #[path = "support/comments.rs"]
 mod comments;
+#[path = "support/field_pointer.rs"]
+mod field_pointer;
 #[path = "support/files.rs"]
 mod files;
 #[path = "support/month.rs"]
@@ -22,13 +24,14 @@ mod standard;
 
 use month::Month;
 use pipe::Pipe;
-use reference::answer::{Refused, Sense, NO_SENSE};
-use reference::answer_words;
+use reference::answer::{Refused, Sense, FIELD_WRONG, NO_SENSE};
+use reference::answer_words::long;
 use reference::codes::{page_code, scope};
 use reference::comparison::page_builder::{descriptor, SetPage};
 use reference::comparison::session::{
     event, give_record, power_on, read_status, security_in, security_out, write,
 };
+use reference::field_words::field_of;
 use reference::hex;
 use reference::names::{name_of, DECRYPTION_MODES, ENCRYPTION_MODES, SCOPES, WRITTEN};
 use reference::record::Record;
@@ -54,8 +57,8 @@ fn main() -> ExitCode {
     };
     let mut play = Play { pipe, document: "01", step: "", differing: Vec::new() };
     println!(
-        "The examples of document 01, a restoring host and a bridge board of document 02 and a month of an archive, \
-         played on {}.",
+        "The examples of document 01, the field pointer, a restoring host and a bridge board of document 02 and a \
+         month of an archive, played on {}.",
         arguments[1..].join(" ")
     );
     println!(
@@ -74,7 +77,9 @@ fn main() -> ExitCode {
         println!("\n{}: not as documents 01 and 02 say", play.differing.join(", "));
         return ExitCode::FAILURE;
     }
-    println!("\nP1 to P10, the restoring host, the bridge board and the month: as documents 01 and 02 say");
+    println!(
+        "\nP1 to P10, the field pointer, the restoring host, the bridge board and the month: as documents 01 and 02 say"
+    );
     ExitCode::SUCCESS
 }
 
@@ -113,6 +118,7 @@ impl Play {
         self.p8()?;
         self.p9()?;
         self.p10()?;
+        self.field_pointer()?;
         self.restoring_host()?;
         self.bridge_board()?;
         self.month(month)
@@ -138,10 +144,12 @@ impl Play {
     }
 
     fn p3(&mut self) -> Played {
-        self.start("P3", "damaged pages", "7 for K cut to 51 bytes, 8 for K with SCOPE 3")?;
+        let expected = "7 for K cut to 51 bytes, 8 for K with SCOPE 3 (02, request 6: byte 4)";
+        self.start("P3", "damaged pages", expected)?;
         let k = SetPage::k().bytes();
         self.page(3, "page K cut to 51 bytes", &k[..51], 7)?;
-        self.page(3, "page K with byte 4 61h", &SetPage { scope: 3, ..SetPage::k() }.bytes(), 8)
+        self.wrong_page(3, "page K with byte 4 61h", &SetPage { scope: 3, ..SetPage::k() }.bytes(), 4)?;
+        Ok(())
     }
 
     fn p4(&mut self) -> Played {
@@ -209,7 +217,7 @@ impl Play {
     }
 
     fn p10(&mut self) -> Played {
-        let expected = "32 bytes are taken; 8 for 33 bytes and for none";
+        let expected = "32 bytes are taken; 8 for 33 bytes and for none (02, request 6: byte 54)";
         self.start("P10", "a description of the key (U-KAD)", expected)?;
         let with =
             |length: usize| SetPage { list: descriptor(0, length as u16, length), ..SetPage::k() }.bytes();
@@ -218,8 +226,9 @@ impl Play {
         status.resize(24, 0);
         status.extend(descriptor(0, 32, 32));
         self.status(3, &status, 60)?;
-        self.page(3, "page K with a U-KAD of 33 bytes", &with(33), 8)?;
-        self.page(3, "page K with a U-KAD of 0 bytes", &with(0), 8)
+        self.wrong_page(3, "page K with a U-KAD of 33 bytes", &with(33), 54)?;
+        self.wrong_page(3, "page K with a U-KAD of 0 bytes", &with(0), 54)?;
+        Ok(())
     }
 
     /// A step's heading, what the document expects, and power-on.
@@ -227,7 +236,7 @@ impl Play {
         self.step = step;
         println!("\n{step}: {what}\n  Document {} expects: {expected}.", self.document);
         let reply = self.pipe.ask(&power_on())?;
-        println!("  Power-on: {}", answer_words(&reply));
+        println!("  Power-on: {}", reply_words(&power_on(), &reply));
         self.check(is_plain(&reply, 0), "answer 0");
         Ok(())
     }
@@ -249,37 +258,54 @@ impl Play {
 
     /// A command that is answered by its number alone.
     fn tell(&mut self, words: &str, command: &Command, number: u8) -> Played {
+        let expected = Reply { number, sense: sense_of(number), data: Vec::new() };
+        self.exchange(words, command, &expected).map(|_| ())
+    }
+
+    /// A command with a page that has a wrong field; expected is the number of the faulty byte.
+    fn tell_wrong(&mut self, words: &str, command: &Command, byte: u16) -> Result<Reply, String> {
+        let (number, data) = (FIELD_WRONG, byte.to_be_bytes().to_vec());
+        self.exchange(words, command, &Reply { number, sense: sense_of(number), data })
+    }
+
+    /// A command, and the whole reply that is expected.
+    fn exchange(&mut self, words: &str, command: &Command, expected: &Reply) -> Result<Reply, String> {
         let reply = self.pipe.ask(command)?;
-        println!("  {words} -> {}", answer_words(&reply));
-        self.check(is_plain(&reply, number), &expected_words(number));
-        Ok(())
+        println!("  {words} -> {}", reply_words(command, &reply));
+        self.check(reply == *expected, &reply_words(command, expected));
+        Ok(reply)
     }
 
     /// A nexus sends a page.
     fn page(&mut self, nexus: u8, name: &str, page: &[u8], number: u8) -> Played {
-        let words = format!("Nexus {nexus} sends {name} ({})", page_words(page));
-        self.tell(&words, &security_out(nexus, page.to_vec()), number)
+        self.tell(&sending(nexus, name, page), &security_out(nexus, page.to_vec()), number)
+    }
+
+    /// A nexus sends a page that has a wrong field.
+    fn wrong_page(&mut self, nexus: u8, name: &str, page: &[u8], byte: u16) -> Result<Reply, String> {
+        self.tell_wrong(&sending(nexus, name, page), &security_out(nexus, page.to_vec()), byte)
     }
 
     /// Several pages of one form, each from its nexus, and each is answered 0.
     fn pages(&mut self, words: &str, pages: &[(u8, Vec<u8>)]) -> Played {
         println!("  {words} ({})", page_words(&pages[0].1));
-        let mut replies = Vec::new();
+        let mut exchanges = Vec::new();
         for (nexus, page) in pages {
-            replies.push(self.pipe.ask(&security_out(*nexus, page.clone()))?);
+            let command = security_out(*nexus, page.clone());
+            let reply = self.pipe.ask(&command)?;
+            exchanges.push((command, reply));
         }
-        let other = replies.iter().find(|reply| !is_plain(reply, 0));
-        match other {
-            None => println!("    -> each: {}", answer_words(&replies[0])),
-            Some(other) => println!("    -> one of them: {}", answer_words(other)),
-        }
+        let other = exchanges.iter().find(|(_, reply)| !is_plain(reply, 0));
+        let (which, (command, reply)) = other.map_or(("each", &exchanges[0]), |other| ("one of them", other));
+        println!("    -> {which}: {}", reply_words(command, reply));
         self.check(other.is_none(), &expected_words(0));
         Ok(())
     }
 
     /// A nexus writes; expected are decision, place and index, or a number.
     fn write(&mut self, nexus: u8, supported: bool, expected: Result<[u8; 3], u8>) -> Played {
-        let reply = self.pipe.ask(&write(nexus, supported))?;
+        let command = write(nexus, supported);
+        let reply = self.pipe.ask(&command)?;
         let volume = if supported { "supports" } else { "doesn't support" };
         let decision = match (reply.number, reply.data.as_slice()) {
             (0, [decision, place, index]) => {
@@ -287,7 +313,7 @@ impl Play {
             }
             _ => String::new(),
         };
-        let answer = answer_words(&reply);
+        let answer = reply_words(&command, &reply);
         println!("  Nexus {nexus} writes (the volume {volume} algorithm 1) -> {answer}{decision}");
         match expected {
             Ok(data) => {
@@ -307,20 +333,19 @@ impl Play {
     fn status(&mut self, nexus: u8, begins: &[u8], length: usize) -> Played {
         let mut expected = begins.to_vec();
         expected.resize(length, 0);
-        let reply = self.pipe.ask(&security_in(nexus, page_code::STATUS, LENT))?;
+        let command = security_in(nexus, page_code::STATUS, LENT);
+        let reply = self.pipe.ask(&command)?;
         let full =
             reply.data.get(..2).map_or(0, |bytes| usize::from(u16::from_be_bytes([bytes[0], bytes[1]])));
         let page = reply.data.get(2..2 + full).unwrap_or(&[]).to_vec();
-        println!("  Nexus {nexus} reads its status page (0020h) -> {}", answer_words(&reply));
+        println!("  Nexus {nexus} reads its status page (0020h) -> {}", reply_words(&command, &reply));
         println!("    {}", bytes_words(&page));
         self.check(reply.number == 0 && page == expected, &bytes_words(&expected));
-        let read = self.pipe.ask(&read_status(page))?;
-        let values = status_values(&expected);
-        println!("    the status reader: {}", status_words(&read));
-        self.check(
-            (read.number, read.sense, &read.data) == (0, NO_SENSE, &values),
-            &status_words(&Reply { number: 0, sense: NO_SENSE, data: values.clone() }),
-        );
+        let command = read_status(page);
+        let read = self.pipe.ask(&command)?;
+        println!("    the status reader: {}", status_words(&command, &read));
+        let expected = Reply { number: 0, sense: NO_SENSE, data: status_values(&expected) };
+        self.check(read == expected, &status_words(&command, &expected));
         Ok(())
     }
 
@@ -345,13 +370,18 @@ fn sense_of(number: u8) -> Sense {
     refused.map_or(NO_SENSE, Refused::sense)
 }
 
-/// An answer number with its meaning, and its sense with SPC-4's name.
-fn answer_words(reply: &Reply) -> String {
-    answer_words::long(reply.number, reply.sense)
+/// The answer to a command: its number with its meaning, the wrong field of the command's page if it tells one, and its
+/// sense with SPC-4's name.
+fn reply_words(command: &Command, reply: &Reply) -> String {
+    long(reply.number, reply.sense, field_of(command, reply).as_deref())
 }
 
 fn expected_words(number: u8) -> String {
-    answer_words::long(number, sense_of(number))
+    long(number, sense_of(number), None)
+}
+
+fn sending(nexus: u8, name: &str, page: &[u8]) -> String {
+    format!("Nexus {nexus} sends {name} ({})", page_words(page))
 }
 
 fn scope_name(scope: u8) -> &'static str {
@@ -411,8 +441,10 @@ fn status_values(page: &[u8]) -> Vec<u8> {
 }
 
 /// What the status reader answers, in words.
-fn status_words(reply: &Reply) -> String {
-    let Some((values, rest)) = reply.data.split_first_chunk::<12>() else { return answer_words(reply) };
+fn status_words(command: &Command, reply: &Reply) -> String {
+    let Some((values, rest)) = reply.data.split_first_chunk::<12>() else {
+        return reply_words(command, reply);
+    };
     let [nexus_scope, set_scope, encryption, decryption, index, n3, n2, n1, n0, ceems, rdmd, u_kad] = *values;
     let number = u32::from_be_bytes([n3, n2, n1, n0]);
     let a_kad = rest.get(U_KAD_BYTES).copied().unwrap_or(0);

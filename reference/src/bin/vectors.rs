@@ -7,11 +7,11 @@
 
 #[path = "support/pipe.rs"]
 mod pipe;
-#[path = "support/vector_file.rs"]
-mod vector_file;
 
 use pipe::Pipe;
 use reference::answer_words::when;
+use reference::comparison::vector_file;
+use reference::field_words::{field, Page};
 use reference::stream::Drive;
 use std::process::ExitCode;
 
@@ -47,7 +47,9 @@ fn main() -> ExitCode {
                 Err(trouble) => Some(format!("{side}: {trouble}")),
             })
             .collect();
-        let expected = format!("{}: answer {}, {}", vector.name, vector.answer, when(vector.answer));
+        let field = vector.byte.map(|byte| field(Page::SetDataEncryption, &vector.page, byte));
+        let field = field.map_or(String::new(), |field| format!(": {field}"));
+        let expected = format!("{}: answer {}, {}{field}", vector.name, vector.answer, when(vector.answer));
         if found.is_empty() {
             println!("{expected}");
         } else {

@@ -6,6 +6,7 @@ mod ceem_cases;
 pub mod claims;
 mod difference;
 mod directed;
+pub mod faulty_byte_cases;
 pub mod numbers;
 mod other_drive;
 pub mod page_builder;
@@ -19,6 +20,7 @@ mod report;
 pub mod salvages;
 pub mod session;
 mod shrink;
+pub mod vector_file;
 mod wire;
 
 use crate::stream::Drive;

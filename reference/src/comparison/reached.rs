@@ -2,6 +2,7 @@
 
 use super::batch_cases::BatchCase;
 use super::ceem_cases::CeemCase;
+use super::faulty_byte_cases::FaultyByteCase;
 use super::place_cases::{PlaceCase, PlaceHistory};
 use super::report::kind_name;
 use crate::account::{Account, ReadCell, Rule};
@@ -50,6 +51,7 @@ pub enum Item {
     Ceem(CeemCase),
     Batch(BatchCase),
     Place(PlaceCase),
+    FaultyByte(FaultyByteCase),
 }
 
 impl Item {
@@ -78,6 +80,7 @@ impl Item {
             Item::Ceem(case) => case.group(),
             Item::Batch(case) => case.group(),
             Item::Place(case) => case.group(),
+            Item::FaultyByte(case) => case.group(),
         }
     }
 
@@ -90,6 +93,7 @@ impl Item {
             Item::Ceem(_) => true,
             Item::Batch(case) => case.is_one_of_all_values(),
             Item::Place(case) => case.is_one_of_all_values(),
+            Item::FaultyByte(case) => case.is_one_of_all_values(),
             _ => false,
         }
     }
@@ -121,6 +125,7 @@ impl fmt::Display for Item {
             Item::Ceem(case) => write!(formatter, "{case}"),
             Item::Batch(case) => write!(formatter, "{case}"),
             Item::Place(case) => write!(formatter, "{case}"),
+            Item::FaultyByte(case) => write!(formatter, "{case}"),
         }
     }
 }
@@ -210,6 +215,9 @@ impl Reached {
         for case in self.places.follow(command, before, reply, account) {
             self.add(Item::Place(case));
         }
+        for case in FaultyByteCase::of(command, before, reply, account) {
+            self.add(Item::FaultyByte(case));
+        }
         self.count_account(account);
     }
 
@@ -259,11 +267,11 @@ impl Reached {
         if let [broken] = account.page_rules[..] {
             self.add(Item::PageRuleBrokenAlone(broken.rule));
         }
-        for &rule in &account.status_rules {
-            self.add(Item::StatusRuleBroken(rule));
+        for broken in &account.status_rules {
+            self.add(Item::StatusRuleBroken(broken.rule));
         }
-        if let [rule] = account.status_rules[..] {
-            self.add(Item::StatusRuleBrokenAlone(rule));
+        if let [broken] = account.status_rules[..] {
+            self.add(Item::StatusRuleBrokenAlone(broken.rule));
         }
         for step in &account.steps {
             self.add(Item::RuleAtWork(step.rule));
@@ -320,6 +328,7 @@ impl Reached {
         wanted.extend(CeemCase::every().into_iter().map(Item::Ceem));
         wanted.extend(BatchCase::every().into_iter().map(Item::Batch));
         wanted.extend(PlaceCase::every().into_iter().map(Item::Place));
+        wanted.extend(FaultyByteCase::every().into_iter().map(Item::FaultyByte));
         wanted.sort();
         wanted
     }

@@ -4,8 +4,11 @@ use super::batch_builder::BatchParts;
 use super::difference::{Difference, What};
 use super::other_drive::Trouble;
 use super::recordings::report::event_text;
+use super::session::give_record;
 use crate::account::Account;
+use crate::answer::Broken;
 use crate::answer_words::{sense_codes, when};
+use crate::field_words::field_of;
 use crate::hex;
 use crate::names::{name_of, CALLS};
 use crate::record::Record;
@@ -139,10 +142,11 @@ pub fn fields(record: &[u8]) -> Vec<(String, Vec<u8>)> {
     fields
 }
 
-/// A reply in words.
-fn reply_text(reply: &Reply) -> String {
+/// The reply to a command in words.
+fn reply_text(command: &Command, reply: &Reply) -> String {
+    let field = field_of(command, reply).map_or(String::new(), |field| format!(", {field}"));
     format!(
-        "answer {} ({}), sense {}, {} bytes\n{}",
+        "answer {} ({}){field}, sense {}, {} bytes\n{}",
         reply.number,
         when(reply.number),
         sense_codes(reply.sense),
@@ -162,7 +166,8 @@ fn trouble_text(trouble: &Trouble) -> String {
 /// The fields in which two records differ.
 fn record_text(reference: &Reply, other: &Reply) -> String {
     if other.number != reference.number || other.data.len() != reference.data.len() {
-        return format!("    reference: {}    other: {}", reply_text(reference), reply_text(other));
+        let [reference, other] = [reference, other].map(|reply| reply_text(&give_record(), reply));
+        return format!("    reference: {reference}    other: {other}");
     }
     let mut text = String::new();
     for ((name, reference), (_, other)) in fields(&reference.data).into_iter().zip(fields(&other.data)) {
@@ -173,18 +178,22 @@ fn record_text(reference: &Reply, other: &Reply) -> String {
     text
 }
 
+/// The byte that a broken rule points to.
+fn byte_text(byte: Option<usize>) -> String {
+    byte.map_or("no byte".to_string(), |byte| format!("byte {byte}"))
+}
+
 /// The reference's account of a call.
 pub fn account_text(account: &Account) -> String {
     let mut text = String::new();
     for clause in &account.clauses {
         let _ = writeln!(text, "    the record isn't well formed: {clause:?} is broken");
     }
-    for broken in &account.page_rules {
-        let byte = broken.byte.map_or("no byte".to_string(), |byte| format!("byte {byte}"));
-        let _ = writeln!(text, "    the page breaks {:?} ({byte})", broken.rule);
+    for Broken { rule, byte } in &account.page_rules {
+        let _ = writeln!(text, "    the page breaks {rule:?} ({})", byte_text(*byte));
     }
-    for rule in &account.status_rules {
-        let _ = writeln!(text, "    the status page breaks {rule:?}");
+    for Broken { rule, byte } in &account.status_rules {
+        let _ = writeln!(text, "    the status page breaks {rule:?} ({})", byte_text(*byte));
     }
     for broken in &account.batch_rules {
         let event = broken.position.map_or(String::new(), |position| format!(" (event {position})"));
@@ -231,26 +240,27 @@ pub fn difference_text(name: &str, commands: &[Command], difference: &Difference
             let _ = writeln!(text, "      both answer {} ({})", reply.number, when(reply.number));
         }
     }
+    let command = &commands[difference.command];
     let _ = match &difference.what {
         What::Reply { other } => write!(
             text,
             "the replies to command {} differ:\n    reference: {}    other: {}",
             difference.command,
-            reply_text(&difference.reply),
-            reply_text(other)
+            reply_text(command, &difference.reply),
+            reply_text(command, other)
         ),
         What::Record { other } => write!(
             text,
             "both replies to command {} are: {}the records after it differ:\n{}",
             difference.command,
-            reply_text(&difference.reply),
+            reply_text(command, &difference.reply),
             record_text(&difference.record, other)
         ),
         What::NoReply(trouble) => write!(
             text,
             "command {} has no reply:\n    reference: {}    other: {}",
             difference.command,
-            reply_text(&difference.reply),
+            reply_text(command, &difference.reply),
             trouble_text(trouble)
         ),
         What::NoRecord(trouble) => {

@@ -4,11 +4,13 @@
 
 mod bytes;
 mod calls;
+mod fields;
 mod sentences;
 mod set_page;
 mod unsound;
 mod words;
 
+pub use fields::Fields;
 pub use sentences::Sentences;
 pub use unsound::unsound;
 
@@ -58,15 +60,16 @@ pub fn event_words(recording: &Recording, event: &Event) -> String {
 /// A replayed recording in words: for each event a line with its position from 0, the call, and the answer, four bytes
 /// an event. The positions stand below each other.
 pub fn told(recording: &Recording, answers: &[u8]) -> String {
-    told_with(recording, answers, &Sentences::default())
+    told_with(recording, answers, &Fields::default(), &Sentences::default())
 }
 
-/// The same, with the sentences beside the writes that they are for.
-pub fn told_with(recording: &Recording, answers: &[u8], sentences: &Sentences) -> String {
+/// The same, with the wrong field in the answer to each page that has one, and the sentences beside the writes that they
+/// are for.
+pub fn told_with(recording: &Recording, answers: &[u8], fields: &Fields, sentences: &Sentences) -> String {
     let events = recording.events.iter().zip(answers.chunks_exact(ANSWER_BYTES)).enumerate();
     let width = recording.events.len().saturating_sub(1).to_string().len();
     let line = |(position, (event, answer)): (usize, (&Event, &[u8]))| {
-        let answer = short(answer[0], [answer[1], answer[2], answer[3]]);
+        let answer = short(answer[0], [answer[1], answer[2], answer[3]], fields.at(position));
         let beside = sentences.beside(position);
         format!("{position:>width$}  {} -> {answer}{beside}\n", event_words(recording, event))
     };

@@ -4,9 +4,9 @@ mod fields;
 mod rules;
 
 pub use fields::{Parameters, Request, SupplementalKey};
-pub use rules::{broken_rules, Broken, PageRule};
+pub use rules::{broken_rules, PageRule};
 
-use crate::answer::Refused;
+use crate::answer::{Broken, Refused};
 use crate::record::Set;
 
 /// Bytes 0 to 19, before the key.
@@ -23,24 +23,14 @@ pub struct Sender<'record> {
 #[derive(Clone, PartialEq, Eq, Debug)]
 pub struct Fault {
     pub answer: Refused,
-    pub broken: Vec<Broken>,
-}
-
-impl Fault {
-    /// The number of the faulty byte of a page answered 8: the lowest byte at which a rule breaks.
-    /// A page whose length is wrong has no faulty byte. (Not part of any reply yet.)
-    pub fn faulty_byte(&self) -> Option<usize> {
-        self.broken.iter().filter_map(|broken| broken.byte).min()
-    }
+    pub broken: Vec<Broken<PageRule>>,
 }
 
 /// Answers 7 and 8 of 01 for a page, or what the page asks for.
 pub fn check(page: &[u8], sender: Sender) -> Result<Request, Fault> {
     let broken = broken_rules(page, sender);
-    if broken.is_empty() {
-        return Ok(fields::request(page));
+    match Refused::of_page(&broken) {
+        Some(answer) => Err(Fault { answer, broken }),
+        None => Ok(fields::request(page)),
     }
-    let length = broken.iter().any(|broken| broken.rule.is_about_length());
-    let answer = if length { Refused::PageLengthWrong } else { Refused::FieldWrong };
-    Err(Fault { answer, broken })
 }

@@ -1,6 +1,7 @@
 //! The rules of 01 and 02 that a Set Data Encryption page can break.
 
 use super::{Sender, HEADER_BYTES};
+use crate::answer::Broken;
 use crate::codes::{ceem, decryption, encryption, page_code, scope, ALGORITHM};
 use crate::descriptors::{read_list, DescriptorRule};
 use crate::sizes::KEY_BYTES;
@@ -70,20 +71,13 @@ impl PageRule {
     }
 }
 
-/// A broken rule and the byte it points to; a rule about the page's length points to none.
-#[derive(Clone, Copy, PartialEq, Eq, Debug)]
-pub struct Broken {
-    pub rule: PageRule,
-    pub byte: Option<usize>,
-}
-
 /// The rules found broken so far.
 struct Found {
-    broken: Vec<Broken>,
+    broken: Vec<Broken<PageRule>>,
 }
 
 impl Found {
-    /// Holds a rule against a byte of the page.
+    /// Holds a rule against a byte of the page; 02, request 6: "A whole field in fault points to its first byte".
     fn holds(&mut self, rule: PageRule, byte: usize, condition: bool) {
         if !condition {
             self.broken.push(Broken { rule, byte: Some(byte) });
@@ -92,7 +86,7 @@ impl Found {
 }
 
 /// Every rule of 01 and 02 that the page breaks. While a length rule is broken no field is read.
-pub fn broken_rules(page: &[u8], sender: Sender) -> Vec<Broken> {
+pub fn broken_rules(page: &[u8], sender: Sender) -> Vec<Broken<PageRule>> {
     let lengths = broken_lengths(page);
     if !lengths.is_empty() {
         return lengths;
@@ -110,7 +104,7 @@ pub fn broken_rules(page: &[u8], sender: Sender) -> Vec<Broken> {
 }
 
 /// 01: "Answer 7: fewer than 20 bytes, or page length plus 4 isn't the byte count."
-fn broken_lengths(page: &[u8]) -> Vec<Broken> {
+fn broken_lengths(page: &[u8]) -> Vec<Broken<PageRule>> {
     let mut broken = Vec::new();
     if page.len() < HEADER_BYTES {
         broken.push(Broken { rule: PageRule::TwentyBytesAtLeast, byte: None });
@@ -137,12 +131,14 @@ fn parameters(page: &[u8], found: &mut Found) {
     let key_length = number_at(page, 18);
     found.holds(PageRule::KeyLength, 18, key_length == key_wanted);
     let list = HEADER_BYTES + key_length;
+    // 02, request 6: "a key cut by the page's end to 18".
     found.holds(PageRule::KeyInPage, 18, list <= page.len());
     if list > page.len() {
         return;
     }
     if !encrypts {
-        // 01: "Without ENCRYPT the list is empty."
+        // 01: "Without ENCRYPT the list is empty."; 02, request 6: "bytes left over where the list must be empty to the
+        // first of them".
         found.holds(PageRule::NoListWithoutEncrypt, list, list == page.len());
     } else if let Err(broken) = read_list(page, list) {
         for (rule, byte) in broken {
@@ -151,7 +147,7 @@ fn parameters(page: &[u8], found: &mut Found) {
     }
 }
 
-/// 01: "With SDK 1 (LOCAL or ALL): ...".
+/// 01: "With SDK 1 (LOCAL or ALL): ..."; 02, request 6: "A mismatched supplemental scope points to 4 and mode to 7".
 fn supplemental_key(page: &[u8], sender: Sender, found: &mut Found) {
     common_fields(page, found);
     let scope_matches = page[4] >> 5 == sender.scope;
@@ -166,7 +162,8 @@ fn supplemental_key(page: &[u8], sender: Sender, found: &mut Found) {
     found.holds(PageRule::NoListWithSupplementalKey, list, list >= page.len());
 }
 
-/// 01: "bits 4–1 of byte 4 and bytes 11–17 zero; ... algorithm 1; both formats 0", with either SDK.
+/// 01: "bits 4–1 of byte 4 and bytes 11–17 zero; ... algorithm 1; both formats 0", with either SDK; 02, request 6: "Each
+/// reserved byte is a field of its own."
 fn common_fields(page: &[u8], found: &mut Found) {
     found.holds(PageRule::ReservedBitsOfByte4, 4, page[4] & 0x1E == 0);
     found.holds(PageRule::AlgorithmIndex, 8, page[8] == ALGORITHM);

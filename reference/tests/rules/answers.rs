@@ -122,7 +122,7 @@ fn answer_7_registers_and_comes_before_8() {
 #[test]
 fn answer_8_registers() {
     let mut controller = Controller::power_on();
-    assert_eq!(send(&mut controller, 3, &k_but(&[(8, 0)])), Err(Refused::FieldWrong));
+    assert_eq!(send(&mut controller, 3, &k_but(&[(8, 0)])), Err(Refused::FieldWrong { byte: 8 }));
     registers_only(&controller, &Record::power_on(), 3);
 }
 
@@ -132,7 +132,8 @@ fn answer_9_registers_and_comes_after_8() {
     controller.record.places[1].supplemental_count = 4;
     controller.record.nexuses[3].registered = false;
     let before = controller.record.clone();
-    assert_eq!(send(&mut controller, 3, &k_but(&[(5, 0x08), (17, 1)])), Err(Refused::FieldWrong));
+    let refused = Refused::FieldWrong { byte: 17 };
+    assert_eq!(send(&mut controller, 3, &k_but(&[(5, 0x08), (17, 1)])), Err(refused));
     controller.record = before.clone();
     assert_eq!(send(&mut controller, 3, &k_but(&[(5, 0x08)])), Err(Refused::FifthSupplementalKey));
     registers_only(&controller, &before, 3);

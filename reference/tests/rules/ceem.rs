@@ -67,7 +67,7 @@ fn every_pair_under_each_encryption_mode() {
                     assert_eq!((set.scope, set.ceem), (scope, ceem));
                     assert_eq!((set.encryption, set.decryption), (encryption, decryption));
                 } else {
-                    assert_eq!(answer, Err(Refused::FieldWrong));
+                    assert_eq!(answer, Err(Refused::FieldWrong { byte: 5 }));
                     assert_eq!(controller.record, registered(3));
                     assert_eq!(faulty_byte(&page, &Record::power_on(), 3), Some(5));
                     assert_eq!(broken(&page, &Record::power_on(), 3), [PageRule::CeemWithDecryptionDisable]);
@@ -82,13 +82,13 @@ fn the_labs_page() {
     let mut controller = Controller::power_on();
     for byte_5 in [0x80, 0xC0, 0x87, 0xB0] {
         let page = without_key([0x40, byte_5, 0, 0]);
-        assert_eq!(send(&mut controller, 7, &page), Err(Refused::FieldWrong));
+        assert_eq!(send(&mut controller, 7, &page), Err(Refused::FieldWrong { byte: 5 }));
         assert_eq!(controller.record, registered(7));
         assert_eq!(faulty_byte(&page, &controller.record, 7), Some(5));
     }
     send(&mut controller, 7, &without_key([0x40, 0x40, 0, 0])).expect("CEEM 01b is taken");
     let with_set = controller.record.clone();
-    assert_eq!(send(&mut controller, 7, &labs_page()), Err(Refused::FieldWrong));
+    assert_eq!(send(&mut controller, 7, &labs_page()), Err(Refused::FieldWrong { byte: 5 }));
     assert_eq!(controller.record, with_set);
     send(&mut controller, 7, &without_key([0x40, 0x00, 0, 0])).expect("CEEM 00b is taken");
     send(&mut controller, 7, &without_key([0x40, 0x80, 0, 1])).expect("RAW is taken");
@@ -125,7 +125,7 @@ fn the_labs_page_with_sdk_1() {
     assert_eq!(faulty_byte(&page, &Record::power_on(), 7), Some(4));
     let mut controller = Controller::power_on();
     send(&mut controller, 7, &k_but(&[(4, 0x40)])).expect("the set is taken");
-    assert_eq!(send(&mut controller, 7, &page), Err(Refused::FieldWrong));
+    assert_eq!(send(&mut controller, 7, &page), Err(Refused::FieldWrong { byte: 7 }));
     assert_eq!(faulty_byte(&page, &controller.record, 7), Some(7));
     assert!(!broken(&page, &controller.record, 7).contains(&PageRule::CeemWithDecryptionDisable));
 }
@@ -287,7 +287,7 @@ fn such_a_set_is_released_and_replaced() {
         assert!(!controller.record.places[place].is_used());
         let mut controller = Controller::with(record.clone());
         let own = page(set.scope, set.ceem << 6, set.encryption, 0);
-        assert_eq!(send(&mut controller, 3, &own), Err(Refused::FieldWrong));
+        assert_eq!(send(&mut controller, 3, &own), Err(Refused::FieldWrong { byte: 5 }));
         assert_eq!(controller.record.places, record.places);
         let other = page(set.scope, 0x40, set.encryption, 0);
         assert_eq!(send(&mut controller, 3, &other), Ok(()));
@@ -322,7 +322,7 @@ fn a_refused_page_leaves_set_and_lock() {
     let before = controller.record.clone();
     for byte_4 in [0x20, 0x21, 0x40] {
         let page = k_but(&[(4, byte_4), (5, 0x84), (7, 0)]);
-        assert_eq!(send(&mut controller, 3, &page), Err(Refused::FieldWrong));
+        assert_eq!(send(&mut controller, 3, &page), Err(Refused::FieldWrong { byte: 5 }));
         assert_eq!(controller.record, before);
     }
 }
@@ -341,7 +341,7 @@ fn answers_5_to_7_come_first_and_10_after() {
         }
         let mut expected = controller.record.clone();
         expected.nexuses[4].registered = true;
-        assert_eq!(send(&mut controller, 4, &page), Err(Refused::FieldWrong));
+        assert_eq!(send(&mut controller, 4, &page), Err(Refused::FieldWrong { byte: 5 }));
         assert_eq!(controller.record, expected);
     }
 }

@@ -27,7 +27,7 @@ fn p2_nexus_3_sends_k() {
 fn p3_k_cut_and_with_scope_3() {
     let mut controller = Controller::power_on();
     assert_eq!(send(&mut controller, 3, &k()[..51]), Err(Refused::PageLengthWrong));
-    assert_eq!(send(&mut controller, 3, &k_but(&[(4, 0x61)])), Err(Refused::FieldWrong));
+    assert_eq!(send(&mut controller, 3, &k_but(&[(4, 0x61)])), Err(Refused::FieldWrong { byte: 4 }));
 }
 
 #[test]
@@ -102,6 +102,7 @@ fn p10_u_kad_lengths() {
     let mut controller = Controller::power_on();
     assert_eq!(send(&mut controller, 3, &k_with(&descriptor(0, &[7; 32]))), Ok(()));
     assert_eq!(controller.record.places[1].u_kad.bytes, [7; 32]);
-    assert_eq!(send(&mut controller, 3, &k_with(&descriptor(0, &[7; 33]))), Err(Refused::FieldWrong));
-    assert_eq!(send(&mut controller, 3, &k_with(&descriptor(0, &[]))), Err(Refused::FieldWrong));
+    let refused = Err(Refused::FieldWrong { byte: 54 });
+    assert_eq!(send(&mut controller, 3, &k_with(&descriptor(0, &[7; 33]))), refused);
+    assert_eq!(send(&mut controller, 3, &k_with(&descriptor(0, &[]))), refused);
 }

@@ -59,7 +59,7 @@ pub fn broken(page: &[u8], record: &Record, nexus: usize) -> Vec<PageRule> {
 
 /// The faulty byte of a page from a nexus of a record.
 pub fn faulty_byte(page: &[u8], record: &Record, nexus: usize) -> Option<usize> {
-    check(page, sender(record, nexus)).expect_err("the page is refused").faulty_byte()
+    check(page, sender(record, nexus)).expect_err("the page is refused").answer.faulty_byte()
 }
 
 /// OUT of a Set Data Encryption page.

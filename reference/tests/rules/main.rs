@@ -1,4 +1,4 @@
-//! Tests of the reference against document 01, and requests 1 to 5, 8, 11 and 12 of document 02.
+//! Tests of the reference against document 01, and requests 1 to 6, 8, 11 and 12 of document 02.
 
 #![forbid(unsafe_code)]
 

@@ -97,7 +97,7 @@ fn fields_a_public_page_ignores() {
     expected.nexuses[3].lock = true;
     assert_eq!(controller.record, expected);
     page[0] = 1;
-    assert_eq!(send(&mut controller, 3, &page), Err(Refused::FieldWrong));
+    assert_eq!(send(&mut controller, 3, &page), Err(Refused::FieldWrong { byte: 0 }));
 }
 
 #[test]

@@ -80,9 +80,9 @@ fn each_rule_alone() {
         .extend((13..=23).map(|byte| (page_but(&[(usize::from(byte), 1)]), StatusRule::FixedZeroByte(byte))));
     for (page, rule) in cases {
         let fault = read(&page).expect_err("the page is refused");
-        assert_eq!(fault.broken, [rule]);
-        let answer = if rule.is_about_length() { Refused::PageLengthWrong } else { Refused::FieldWrong };
-        assert_eq!(fault.answer, answer);
+        assert_eq!(fault.broken.iter().map(|broken| broken.rule).collect::<Vec<_>>(), [rule]);
+        assert_eq!(fault.answer == Refused::PageLengthWrong, rule.is_about_length());
+        assert_eq!(fault.answer.faulty_byte().is_some(), !rule.is_about_length());
     }
 }
 

@@ -1,10 +1,10 @@
 //! The tables and examples of docs/RECORDINGS.md itself.
 
 use crate::comments::said;
-use crate::examples::replies;
+use crate::examples::{replies, text};
 use crate::{parts, recorded, shown};
 use reference::recording::answer_bytes;
-use reference::script::{event_words, told_with, Sentences};
+use reference::script::{event_words, told, told_with, Fields, Sentences};
 use reference::why::History;
 
 const DOCUMENT: &str = concat!(env!("CARGO_MANIFEST_DIR"), "/../docs/RECORDINGS.md");
@@ -94,6 +94,33 @@ fn the_example_is_answered_as_its_comments_tell_and_is_told_in_words() {
     let answers: Vec<u8> = replies.iter().flat_map(answer_bytes).collect();
     let reasons = History::of(&recording).reasons_of_writes();
     let sentences = Sentences::read(&reasons, &recording, &answers).expect("each refused write has a reason");
-    let words = told_with(&recording, &answers, &sentences);
-    assert!(words.contains(indented("Replay in words").trim_end()), "{words}");
+    let words = told_with(&recording, &answers, &Fields::default(), &sentences);
+    assert!(words.contains(&replayed()[0]), "{words}");
+}
+
+#[test]
+fn the_months_wrong_pages_are_told_with_their_fields() {
+    let recording = recorded(&text("month"));
+    let mut replies = replies(&recording);
+    // 02, request 6: "request 2's CEEM to 5", and half a key has a wrong length
+    replies[36].data = vec![0, 5];
+    replies[37].data = vec![0, 18];
+    let answers: Vec<u8> = replies.iter().flat_map(answer_bytes).collect();
+    let fields = Fields::of(&recording, &replies);
+    let words = told_with(&recording, &answers, &fields, &Sentences::default());
+    assert!(words.contains(&replayed()[1]), "{words}");
+    // the other lines have no field, and none is told without the replies
+    let told = told(&recording, &answers);
+    let other = words.lines().zip(told.lines()).filter(|(with, without)| with != without);
+    assert_eq!(other.count(), 2);
+    assert!(told.contains(" -> 8 field of the page wrong (5/26/00)\n"));
+}
+
+/// The two examples of "Replay in words".
+fn replayed() -> [String; 2] {
+    let lines = section("Replay in words");
+    let blocks = lines.split(|line| !line.starts_with("    ")).filter(|block| !block.is_empty());
+    let text = |block: &[String]| block.iter().map(|line| format!("{}\n", &line[4..])).collect();
+    let blocks: Vec<String> = blocks.map(text).collect();
+    blocks.try_into().expect("there are two")
 }

@@ -1,4 +1,4 @@
-//! Tests of recordings as text and of reasons: docs/RECORDINGS.md and docs/REASONS.md, sentence by sentence.
+//! Tests of recordings as text, in words, and of reasons: docs/RECORDINGS.md and docs/REASONS.md, sentence by sentence.
 
 #![forbid(unsafe_code)]
 
@@ -8,6 +8,7 @@ mod demo;
 mod document;
 mod events;
 mod examples;
+mod fields;
 mod inverse;
 mod layout;
 mod programs;

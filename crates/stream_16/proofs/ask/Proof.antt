@@ -5,7 +5,7 @@ use lib.ListN.{length}
 use Rattle.arrays.proofs.Laws.{sized-field}
 use Rattle.sizes_16.specs.Sizes.{nexusCount, placeCount}
 use Rattle.device_16.specs.Model.{state}
-use Rattle.drive.specs.Calls.{securityOut, unitReset, happens}
+use Rattle.drive.specs.Calls.{unitReset, happens}
 use Rattle.calls.specs.declared.Asked.the-variants.{PowerOn, In, Out, Write, Read, UnitReset, Happen}
 use Rattle.command.specs.Replies.{askedReply}
 use Rattle.reply_16.specs.Giving.{inFrom}
@@ -34,7 +34,6 @@ ask-spec =
     (λ c κs. search needs)
     (λ c. search needs)
     (λ c κs. search needs)
-    (λ c κs. search needs)
     (λ c. search needs)
     (λ c κs. search needs)
     (λ c. search needs)
@@ -56,11 +55,12 @@ ask-spec =
     let a = matched .before .before .before .before .before .args in
     asked-followed (state (a .d)) (now (a .page)) (partFrom inFrom (a .size) (now (a .buffer))) (now (a .buffer)) {known = In _} (matched .before .asked .given .1)
     (c .before .before .give-in .ensures))
+    (λ c. search needs)
     (λ c.
-    let matched = c .before .before in
+    let matched = c .before .before .before .before in
     let a = matched .before .before .before .before .before .args in
     asked-followed (state (a .d)) (now (a .page)) (partFrom inFrom (a .size) (now (a .buffer))) (now (a .buffer)) {known = Out _} (matched .before .asked2 .given .1)
-    (kept _ _ _ refl (call-told (state (a .d)) (securityOut _ (now (a .page))) (c .before .security-out .ensures) (c .plain2 .ensures))))
+    (c .before .before .give-out .ensures))
     (λ c. search needs)
     (λ c.
     let matched = c .before .before .before .before in
@@ -77,9 +77,9 @@ ask-spec =
     let matched = c .before .before in
     let a = matched .before .before .before .before .args in
     asked-followed (state (a .d)) (now (a .page)) (partFrom inFrom (a .size) (now (a .buffer))) (now (a .buffer)) {known = UnitReset} (matched .enum-told2 .given .1)
-    (kept _ _ _ refl (call-told (state (a .d)) unitReset (c .before .unit-reset .ensures) (c .plain3 .ensures))))
+    (kept _ _ _ refl (call-told (state (a .d)) unitReset (c .before .unit-reset .ensures) (c .plain2 .ensures))))
     (λ c.
     let matched = c .before .before in
     let a = matched .before .before .before .before .before .args in
     asked-followed (state (a .d)) (now (a .page)) (partFrom inFrom (a .size) (now (a .buffer))) (now (a .buffer)) {known = Happen _} (matched .before .asked5 .given .1)
-    (kept _ _ _ refl (call-told (state (a .d)) (happens _) (c .before .happen .ensures) (c .plain4 .ensures)))))
+    (kept _ _ _ refl (call-told (state (a .d)) (happens _) (c .before .happen .ensures) (c .plain3 .ensures)))))

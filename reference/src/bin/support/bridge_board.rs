@@ -1,6 +1,6 @@
 //! The bridge board: it sends several events in one call, by request 5 of document 02.
 
-use crate::{answer_words, expected_words, sense_of, Play, Played};
+use crate::{expected_words, reply_words, sense_of, Play, Played};
 use reference::answer::NO_SENSE;
 use reference::comparison::batch_builder::{p7, BatchParts};
 use reference::comparison::session::give_record;
@@ -58,7 +58,7 @@ impl Play {
         println!(
             "  The board sends {events} events with {page_bytes} page bytes and lends {} bytes -> {}",
             batch.room,
-            answer_words(&reply)
+            reply_words(&command, &reply)
         );
         self.check((reply.number, reply.sense) == (number, NO_SENSE), &expected_words(number));
         Ok(reply)

@@ -1,5 +1,6 @@
 //! The comments of a recording's text: what is to come of each call stands after "->".
 
+use reference::field_words::faulty_byte;
 use reference::names::{READ, WRITTEN};
 use reference::recording::Event;
 use reference::stream::{kind, Reply};
@@ -27,13 +28,21 @@ pub fn said(reply: &Reply, event: &Event) -> (String, Option<u8>) {
     (decision.unwrap_or(&UNKNOWN).to_string(), reply.data.get(1).copied())
 }
 
-/// Whether a reply is what a comment says. A place counts where it is named.
+/// Whether a reply is what a comment says. A place and a faulty byte count where they are named.
 pub fn holds(comment: &str, reply: &Reply, event: &Event) -> bool {
     let (word, place) = said(reply, event);
     let same = match comment.split([',', ' ']).next() {
         Some("0") => reply.number == 0 && word != UNKNOWN,
         other => other == Some(&*word),
     };
-    let named = comment.split_once("place ").map(|(_, number)| number);
-    same && (named.is_none() || named == place.map(|place| place.to_string()).as_deref())
+    same && tells(comment, "place ", place.map(u16::from))
+        && tells(comment, "byte ", faulty_byte(event.kind, reply))
+}
+
+/// Whether a comment that has a word has this number after it.
+fn tells(comment: &str, word: &str, number: Option<u16>) -> bool {
+    comment.split_once(word).is_none_or(|(_, rest)| {
+        let end = rest.find(|digit: char| !digit.is_ascii_digit()).unwrap_or(rest.len());
+        number.map(|number| number.to_string()).as_deref() == Some(&rest[..end])
+    })
 }

@@ -4,10 +4,12 @@ use crate::comments::{comments, holds, said};
 use crate::files::{read, read_recording, shown};
 use crate::standard::{print, Ended};
 use crate::{is_plain, sense_of, Play, Played};
+use reference::answer::FIELD_WRONG;
 use reference::claim::{count, row_of, total, Column};
 use reference::comparison::session::power_on;
+use reference::field_words::faulty_byte;
 use reference::recording::{answer_bytes, Event, Recording};
-use reference::script::{make, told};
+use reference::script::{make, told_with, Fields, Sentences};
 use reference::stream::{kind, Reply};
 use std::path::Path;
 
@@ -50,7 +52,8 @@ impl Play {
         self.check(is_plain(&reply, 0), "answer 0 for power-on");
         let (replies, all_came) = recording.replies(|command| self.pipe.ask(command));
         let answers: Vec<u8> = replies.iter().flat_map(answer_bytes).collect();
-        let told = told(recording, &answers);
+        let fields = Fields::of(recording, &replies);
+        let told = told_with(recording, &answers, &fields, &Sentences::default());
         let events = recording.events.iter().zip(&replies).zip(comments);
         for (line, ((event, reply), comment)) in told.lines().zip(events) {
             let difference = difference(comment, reply, event);
@@ -74,12 +77,14 @@ fn difference(comment: &str, reply: &Reply, event: &Event) -> Option<String> {
     if !holds(comment, reply, event) {
         let (word, place) = said(reply, event);
         let place = place.map_or(String::new(), |place| format!(", place {place}"));
-        return Some(format!("{TEXT} says {comment}; it is {word}{place}"));
+        let byte = faulty_byte(event.kind, reply).map_or(String::new(), |byte| format!(", byte {byte}"));
+        return Some(format!("{TEXT} says {comment}; it is {word}{place}{byte}"));
     }
     let has_its_data = match (event.kind, reply.number) {
         // the page's full length, and a lent buffer of no bytes
         (kind::IN, 0) => reply.data.len() == 2,
         (kind::IN, _) => reply.data == [0, 0],
+        (kind::OUT, FIELD_WRONG) => reply.data.len() == 2,
         (kind::WRITE, 0) => reply.data.len() == 3,
         (kind::READ, 0) => reply.data.len() == 2,
         _ => reply.data.is_empty(),

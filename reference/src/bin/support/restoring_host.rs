@@ -1,6 +1,6 @@
 //! The restoring host: a host that wrote a volume under its key reads it, by request 1 of document 02.
 
-use crate::{answer_words, expected_words, is_plain, Play, Played};
+use crate::{expected_words, is_plain, reply_words, Play, Played};
 use reference::answer::NO_SENSE;
 use reference::codes::{block_kind, decryption, encryption, opening_key, scope};
 use reference::comparison::page_builder::SetPage;
@@ -109,12 +109,13 @@ impl Play {
 
     /// A nexus reads a block of a kind that a key opened; expected are decision and place, or a number.
     fn read(&mut self, nexus: u8, (block_kind, key): (u8, u8), expected: Result<[u8; 2], u8>) -> Played {
-        let reply = self.pipe.ask(&read(nexus, block_kind, key))?;
+        let command = read(nexus, block_kind, key);
+        let reply = self.pipe.ask(&command)?;
         let decision = match (reply.number, reply.data.as_slice()) {
             (0, [decision, place]) => format!(": {}, place {place}", read_name(*decision)),
             _ => String::new(),
         };
-        let answer = answer_words(&reply);
+        let answer = reply_words(&command, &reply);
         let (block, key) = (block_name(block_kind), key_words(key));
         println!("  Nexus {nexus} reads {block} ({key}) -> {answer}{decision}");
         match expected {

@@ -7,6 +7,7 @@ mod ceem;
 mod descriptors;
 mod events;
 mod examples;
+mod faulty_bytes;
 mod kinds;
 mod local_places;
 mod page_rules;
@@ -30,6 +31,7 @@ pub fn examples(sink: &mut Sink) {
 
 /// Every directed session.
 pub fn sessions(sink: &mut Sink) {
+    faulty_bytes::sessions(sink);
     sessions_for_recordings(sink);
     local_places::sessions(sink);
 }

@@ -219,7 +219,7 @@ fn can_be_replayed(item: &Item) -> bool {
         Item::ClauseBroken(_) | Item::ClauseBrokenAlone(_) => false,
         Item::StatusRuleBroken(_) | Item::StatusRuleBrokenAlone(_) | Item::StatusPageLength(_) => false,
         Item::LentSize(_) | Item::SetPageByte(..) | Item::ReadCell(_) => false,
-        Item::Ceem(_) | Item::Batch(_) | Item::Place(_) => false,
+        Item::Ceem(_) | Item::Batch(_) | Item::Place(_) | Item::FaultyByte(_) => false,
         _ => true,
     }
 }

@@ -1,14 +1,14 @@
 //! The file of outside pages, vectors/pages.txt, and what each page is to come to.
 
-use reference::answer::{Refused, NO_SENSE};
-use reference::answer_words::sense_codes;
-use reference::codes::scope;
-use reference::comparison::session::{give_record, power_on, security_out};
-use reference::hex;
-use reference::record::{Kad, Record, Set};
-use reference::record_bytes;
-use reference::sizes::{KEY_BYTES, PLACES};
-use reference::stream::{Command, Reply};
+use super::session::{give_record, power_on, security_out};
+use crate::answer::{Refused, NO_SENSE};
+use crate::answer_words::sense_codes;
+use crate::codes::scope;
+use crate::hex;
+use crate::record::{Kad, Record, Set};
+use crate::record_bytes;
+use crate::sizes::{KEY_BYTES, PLACES};
+use crate::stream::{Command, Reply};
 
 /// The nexus that sends every page of the file.
 pub const SENDER: u8 = 7;
@@ -19,6 +19,8 @@ pub struct Vector {
     pub name: String,
     pub page: Vec<u8>,
     pub answer: u8,
+    /// The faulty byte, of a page that is answered 8.
+    pub byte: Option<u16>,
     /// The place and the set that an accepted page leaves there.
     set: Option<(usize, Set)>,
     lock: bool,
@@ -38,7 +40,7 @@ fn read_block(block: &[&str]) -> Result<Vector, String> {
     let mut values: Vec<(&str, String)> = Vec::new();
     for line in block {
         let (word, value) = line.split_once(':').ok_or_else(|| format!("no word in \"{line}\""))?;
-        if !["name", "source", "start", "page", "answer", "set", "u-kad", "a-kad"].contains(&word) {
+        if !["name", "source", "start", "page", "answer", "byte", "set", "u-kad", "a-kad"].contains(&word) {
             return Err(format!("unknown word \"{word}\""));
         }
         match values.iter_mut().find(|(known, _)| *known == word) {
@@ -57,7 +59,12 @@ fn read_block(block: &[&str]) -> Result<Vector, String> {
     }
     let page = bytes(value("page")?)?;
     let answer: u8 = value("answer")?.parse().map_err(|_| "an answer that is no number".to_string())?;
-    let mut vector = Vector { name: value("name")?.to_string(), page, answer, set: None, lock: false };
+    let byte = match (answer, value("byte")) {
+        (8, byte) => Some(byte?.parse().map_err(|_| "a byte that is no number".to_string())?),
+        (_, Ok(_)) => return Err("a byte with an answer other than 8".to_string()),
+        _ => None,
+    };
+    let mut vector = Vector { name: value("name")?.to_string(), page, answer, byte, set: None, lock: false };
     if answer == 0 {
         vector.read_set(value("set")?)?;
         if let (Some((_, set)), Ok(data)) = (&mut vector.set, value("u-kad")) {
@@ -148,8 +155,10 @@ impl Vector {
         let reply = ask(&security_out(SENDER, self.page.clone()))?;
         let refused = Refused::EVERY.into_iter().find(|refused| refused.number() == self.answer);
         let sense = refused.map_or(NO_SENSE, Refused::sense);
-        if (reply.number, reply.sense) != (self.answer, sense) || !reply.data.is_empty() {
-            return Ok(Some(format!("answer {} with sense {}", reply.number, sense_codes(reply.sense))));
+        let data = self.byte.map_or(Vec::new(), |byte| byte.to_be_bytes().to_vec());
+        if (reply.number, reply.sense, &reply.data) != (self.answer, sense, &data) {
+            let (number, sense, data) = (reply.number, sense_codes(reply.sense), reply.data);
+            return Ok(Some(format!("answer {number} with sense {sense} and data {data:02X?}")));
         }
         let bytes = ask(&give_record())?.data;
         let expected = record_bytes::give(&self.record());
