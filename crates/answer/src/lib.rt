@@ -11,7 +11,7 @@ pub enum Answer {
     PageNotSupported,
     PageLengthWrong,
     // Document 02, request 6: with the number of the faulty byte.
-    FieldWrong(usize),
+    FieldWrong(u16),
     FifthSupplementalKey,
     NoPlaceForLocal,
     KeyInstanceChanged,
@@ -51,7 +51,7 @@ pub struct Row {
     pub number: u8,
     pub sense: Sense,
     pub change: Change,
-    pub faultyByte: usize,
+    pub faultyByte: u16,
 }
 
 // Document 01's table, and the rows that document 02 adds: number; sense key, ASC and ASCQ (zeros where there is none); record change; the faulty byte, which answer 8

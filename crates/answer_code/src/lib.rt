@@ -3,18 +3,10 @@ use answer::Answer;
 use answer::Row;
 use answer::Sense;
 ghost use mathlib.Core.Path.{_≡_};
-ghost use Rattle.answer.specs.Answers.{carrying, rowOf, senseOf, isDone};
+ghost use Rattle.answer.specs.Answers.{rowOf, senseOf, isDone};
 
-// A row with the number of the faulty byte.
-fn carrying(byte: usize, row: Row) -> Row
-    ensures { λ r. ⌜ r ≡ carrying byte row ⌝ }
-{
-    let mut carries = row;
-    carries.faultyByte = byte;
-    carries
-}
-
-// The answer's row in document 01's table.
+// The answer's row in document 01's table; that of 8 takes the byte from the answer. A function for it would cost a refused page a copy of the
+// record.
 pub fn row_of(answer: Answer) -> Row
     ensures { λ r. ⌜ r ≡ rowOf answer ⌝ }
 {
@@ -27,7 +19,11 @@ pub fn row_of(answer: Answer) -> Row
         Answer::ProtocolNotSupported => Row::PROTOCOL_NOT_SUPPORTED,
         Answer::PageNotSupported => Row::PAGE_NOT_SUPPORTED,
         Answer::PageLengthWrong => Row::PAGE_LENGTH_WRONG,
-        Answer::FieldWrong(byte) => carrying(byte, Row::FIELD_WRONG),
+        Answer::FieldWrong(byte) => {
+            let mut row = Row::FIELD_WRONG;
+            row.faultyByte = byte;
+            row
+        }
         Answer::FifthSupplementalKey => Row::FIFTH_SUPPLEMENTAL_KEY,
         Answer::NoPlaceForLocal => Row::NO_PLACE_FOR_LOCAL,
         Answer::KeyInstanceChanged => Row::KEY_INSTANCE_CHANGED,

@@ -95,6 +95,18 @@ set-under p m l =
     under-append (modeRules p) (plainRules p ++ keys) m (under-more (modeRules p) 8 m (omega arith) (mode-under p))
     (under-append (plainRules p) keys m (under-more (plainRules p) 18 m (omega arith) (plain-under p)) (key-under p _ m l))
 
+-- the first fault of each, where it lies within the page, has a number that two bytes hold
+pub open-fits : (p : List ℕ) (fault : ℕ) → fault ≡ breach (openRules p) (length p) → fault < length p → fault < 2 ^ 16
+open-fits p fault e l = let below = breach-under (openRules p) (length p) 5 (open-under p) (rw e at l) in omega (arith, e)
+
+pub supplemental-fits : (p : List ℕ) (scope mode fault : ℕ) → fault ≡ breach (supplementalRules p scope mode) (length p) → fault < length p → fault < 2 ^ 16
+supplemental-fits p scope mode fault e l =
+    let below = breach-under (supplementalRules p scope mode) (length p) 53 (supplemental-under p scope mode) (rw e at l) in
+    omega (arith, e)
+
+pub set-fits : (p : List ℕ) (fault : ℕ) → fault ≡ breach (setRules p) (length p) → fault < length p → fault < 2 ^ 16
+set-fits p fault e l = let below = breach-under (setRules p) (length p) 20 (set-under p 20 (omega arith)) (rw e at l) in omega (arith, e)
+
 -- after the key
 after-sorted : (p : List ℕ) → Sorted 20 (afterRules p)
 unfolding afterRules
@@ -142,8 +154,8 @@ after-hold p l h =
     (λ t. rw t (let all : length p ≤ keyEnd p + listed (length rest) rest Nothing noKads .good = rw t at h in list-hold (length rest) (keyEnd p) rest Nothing noKads (le-refl (length rest)) (omega arith)))
     (λ t. rw t (let all : length p ≤ keyEnd p + 0 = rw t at h in (le-leb (length p) (keyEnd p) (omega arith), tt)))
 
--- which lies within two bytes' numbers, where the key length is right
-end-fits : (p : List ℕ) → keyLengthOf p ≡ keyLength (encryptionOf p) (decryptionOf p) → keyEnd p + listedOf p .good < 2 ^ 16
+-- its number too is one that two bytes hold, where the key length is right
+pub end-fits : (p : List ℕ) → keyLengthOf p ≡ keyLength (encryptionOf p) (decryptionOf p) → keyEnd p + listedOf p .good < 2 ^ 16
 unfolding listOf
 end-fits p e =
     let rest = drop (keyEnd p) p in
@@ -195,8 +207,7 @@ module _ (p : List ℕ) (long : keyFrom ≤ length p) (opens : AllHold (openRule
       cases (ltb fault (length p))
       (λ t.
       let lt = ltb-true fault (length p) t in
-      let below = breach-under rules (length p) 53 (supplemental-under p scope mode) lt in
-      rw t (others-wrong p rules sorted opens fault refl lt (omega arith)))
+      rw t (others-wrong p rules sorted opens fault refl lt (supplemental-fits p scope mode fault refl lt)))
       (λ t.
       let all = supplemental-all p scope mode (supplemental-hold p scope mode long (ltb-false fault (length p) t)) in
       cases (leb supplementalMost count) (λ u. rw (t, u) (others-right p rules sorted opens FifthSupplementalKey (inr refl) all))
@@ -215,8 +226,7 @@ module _ (p : List ℕ) (long : keyFrom ≤ length p) (opens : AllHold (openRule
       cases (ltb fault n)
       (λ t.
       let lt = ltb-true fault n t in
-      let below = breach-under (setRules p) n 20 (set-under p 20 (omega arith)) lt in
-      rw t (others-wrong p rules sorted opens fault (sym (low (setRules p) (afterRules p) n n fault refl lt)) lt (omega arith)))
+      rw t (others-wrong p rules sorted opens fault (sym (low (setRules p) (afterRules p) n n fault refl lt)) lt (set-fits p fault refl lt)))
       (λ t.
       let le = ltb-false fault n t in
       let held = set-hold p long le in
@@ -239,8 +249,7 @@ page-verdict p scope mode count =
     cases (ltb fault n)
     (λ t.
     let lt = ltb-true fault n t in
-    let below = breach-under (openRules p) n 5 (open-under p) lt in
-    rw (e, t) (judged-wrong keyFrom (pageRules p scope mode) p _ fault (lowest-of (pageRules p scope mode) n fault (page-sorted p scope mode) (sym (low (openRules p) (innerRules p scope mode) n n fault refl lt)) lt) lt (omega arith) refl))
+    rw (e, t) (judged-wrong keyFrom (pageRules p scope mode) p _ fault (lowest-of (pageRules p scope mode) n fault (page-sorted p scope mode) (sym (low (openRules p) (innerRules p scope mode) n n fault refl lt)) lt) lt (open-fits p fault refl lt) refl))
     (λ t.
     let opens = kept (openRules p) n n under (ltb-false fault n t) in
     cases (isPublic p) (λ u. rw (e, t, u) (others-right p [] tt opens Done (inl refl) tt))

@@ -246,14 +246,14 @@ fn check_set(page: &[u8], byte4: SetByte4, byte5: SetByte5) -> Checked
 {
     let fault = set_fault(page, byte4, byte5);
     if fault < page.len() {
-        return refuse(Answer::FieldWrong(fault));
+        return refuse(Answer::FieldWrong(fault as u16));
     }
     let start = KEY_FROM + wire_code::word_at(page, 18);
     let key = wire_code::padded_32(&page[KEY_FROM..start]);
     let list = list_after_key(page[6], &page[start..]);
     let end = start + list.good;
     if end < page.len() {
-        return refuse(Answer::FieldWrong(end));
+        return refuse(Answer::FieldWrong(end as u16));
     }
     let kads = list.kads;
     let fields = set_fields(page, byte5, key, kads);
@@ -276,7 +276,7 @@ fn check_supplemental(page: &[u8], byte4: SetByte4, scope: u8, mode: u8, count: 
 {
     let fault = supplemental_fault(page, byte4, scope, mode);
     if fault < page.len() {
-        return refuse(Answer::FieldWrong(fault));
+        return refuse(Answer::FieldWrong(fault as u16));
     }
     if SUPPLEMENTAL_MOST <= count {
         return refuse(Answer::FifthSupplementalKey);
@@ -320,7 +320,7 @@ pub fn check(page: &[u8], scope: u8, mode: u8, count: u8) -> Checked
     let byte4 = set_byte_4(page[4]);
     let fault = open_fault(page, byte4);
     if fault < page.len() {
-        return refuse(Answer::FieldWrong(fault));
+        return refuse(Answer::FieldWrong(fault as u16));
     }
     if byte4.scope == PUBLIC {
         return check_public(byte4.lock);

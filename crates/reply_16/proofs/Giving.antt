@@ -10,7 +10,6 @@ use lib.ListN.{length}
 use lib.Seq.{sets}
 use Rattle.arrays.proofs.Base.{if-elim, if-true, if-false}
 use Rattle.wire.specs.Numbers.{two}
-use Rattle.wire.proofs.Numbers.{two-lower}
 use Rattle.answer.specs.Answers.{rowOf, faultyByteOf, isDone}
 use Rattle.answer.specs.declared.Answer.{Answer}
 use Rattle.answer.specs.declared.Row.{Row}
@@ -62,10 +61,10 @@ module _ (a : Answer) (s : State) {row : Row} (p : row ≡ rowOf a) where
   unpointed b r f u = stopped a (pointer a) s b r (if-false _ _ _ (ap (λ (x : Row). eqb (x .number) 8) (sym p) ∙ f)) u
 
   -- 8: the number of the faulty byte
-  pub pointed : (b : List ℕ) {bytes end : List ℕ} {r : Reply} → eqb (row .number) 8 ≡ true → bytes ≡ two (row .faultyByte % 65536) → end ≡ sets b replyHeadSize bytes
+  pub pointed : (b : List ℕ) {bytes end : List ℕ} {r : Reply} → eqb (row .number) 8 ≡ true → bytes ≡ two (row .faultyByte) → end ≡ sets b replyHeadSize bytes
       → r ≡ replyWith (device s) a 2 → Given (answered a (pointer a) s) b r end
   pointed b {bytes} t e v u =
-      let told : two (faultyByteOf a) ≡ bytes = sym (e ∙ ap (λ (x : Row). two (x .faultyByte % 65536)) p ∙ two-lower (faultyByteOf a)) in
+      let told : two (faultyByteOf a) ≡ bytes = sym (e ∙ ap (λ (x : Row). two (x .faultyByte)) p) in
       stored a (pointer a) s bytes b 2 (if-true _ _ _ (ap (λ (x : Row). eqb (x .number) 8) (sym p) ∙ t) ∙ told) (ap length told) (omega arith) v u
 
 -- a page that is sent

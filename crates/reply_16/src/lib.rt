@@ -94,7 +94,7 @@ fn point(d: Device, answer: Answer, buffer: &mut [u8]) -> Reply
     if row.number != POINTING {
         return reply_with(d, answer, 0);
     }
-    let byte = wire_code::two((row.faultyByte % 65536) as u16);
+    let byte = wire_code::two(row.faultyByte);
     wire_code::put(buffer, HEAD_SIZE, &byte);
     reply_with(d, answer, 2)
 }

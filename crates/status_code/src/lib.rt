@@ -250,12 +250,12 @@ pub fn read_status(page: &[u8]) -> StatusRead
     }
     let head = head_fault(page);
     if head < DESCRIPTORS_FROM {
-        return refuse(Answer::FieldWrong(head));
+        return refuse(Answer::FieldWrong(head as u16));
     }
     let list = kad_code::read(&page[DESCRIPTORS_FROM..]);
     let end = DESCRIPTORS_FROM + list.good;
     if end < page.len() {
-        return refuse(Answer::FieldWrong(end));
+        return refuse(Answer::FieldWrong(end as u16));
     }
     let kads = list.kads;
     StatusRead {

@@ -12,6 +12,7 @@ use Rattle.page.specs.declared.SetByte5.{SetByte5}
 use Rattle.page.specs.Fields.{keyFrom}
 use Rattle.page.specs.Check.{checked}
 use Rattle.wire.proofs.Lowest.{right-length}
+use Rattle.page.proofs.Lowest.{open-fits}
 use Rattle.page_code.proofs.check.Statement.{statement}
 use Rattle.page_code.proofs.check.Tie as tie
 
@@ -31,6 +32,7 @@ check-spec =
     let h = head (w .before .before .args .page .now) _ (w .is-length-wrong .ensures) (f .if1 .left) in omega arith)
     (λ c κs. search needs)
     (λ c κs. c .set-byte-4 .ensures)
+    (λ c. let o = c .before in let small = open-fits (o .before .before .before .before .before .before .args .page .now) _ (o .open-fault .ensures) (c .if2 .taken) in omega arith)
     (λ c κs. search needs)
     (λ c. let g = c .before in let o = g .before in let f = o .before .before .before in
     simp (← f .before .is-length-wrong .ensures, f .if1 .left, ← o .open-fault .ensures, lt-ltb _ _ (g .if2 .taken)) (c .refuse2 .ensures))

@@ -1,8 +1,10 @@
 use native.Mathlib.Nat.{add-sub-cancel-left}
+use native.Mathlib.Omega.{arith}
 use borrow.Author.Needs.{needs}
 use borrow.Author.Tests.{lt-ltb, le-ltb, lt-leb, le-leb}
 use Rattle.page.specs.Check.{supplementalPage}
 use Rattle.page.proofs.Parts.{supplemental-hold, key-fits}
+use Rattle.page.proofs.Lowest.{supplemental-fits}
 use Rattle.page_code.proofs.check_supplemental.Statement.{statement}
 use Rattle.page_code.proofs.check_supplemental.Tie as tie
 
@@ -12,6 +14,8 @@ check-supplemental-spec =
     tie.close
     (tie.spec
     (λ c κs. c .before .pre)
+    (λ c. let q = c .before in let a = q .before .before .args in
+    let small = supplemental-fits (a .page .now) (a .scope) (a .mode) _ (q .supplemental-fault .ensures) (c .if1 .taken) in omega arith)
     (λ c κs. search needs)
     (λ c. let f = c .before in simp (← f .before .supplemental-fault .ensures, lt-ltb _ _ (f .if1 .taken)) (c .refuse .ensures))
     (λ c κs. search needs)

@@ -16,7 +16,6 @@ point-spec =
     let tested = c .before .before .before in
     let a = tested .before .before .args in
     unpointed (a .answer) (state (a .d)) (tested .row-of .ensures) (now (a .buffer)) _ (ne-eqb _ _ (c .before .if1 .taken)) (c .reply-with .ensures))
-    (λ c. search needs)
     (λ c κs. search needs)
     (λ c. search needs)
     (λ c κs. search needs)
@@ -25,7 +24,7 @@ point-spec =
     (λ c.
     let put = c .before .before .before in
     let told = put .before .before .before in
-    let passed = told .before .before in
+    let passed = told .before in
     let tested = passed .before .before in
     let a = tested .before .before .args in
     pointed (a .answer) (state (a .d)) (tested .row-of .ensures) (now (a .buffer)) (eq-eqb _ _ (passed .if1 .left)) (told .two .ensures) (put .put .ensures) (c .reply-with2 .ensures)))

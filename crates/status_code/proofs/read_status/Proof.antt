@@ -3,12 +3,15 @@ use mathlib.Core.Path.{_≡_, sym, ap, _∙_}
 use mathlib.Core.Bool.{false}
 use mathlib.Core.List.{List}
 use Prim.Native.Nat.{ℕ, _+_, _-_, _≤_}
+use native.Mathlib.Omega.{arith}
 use denote.Ref.{now}
 use lib.ListN.{length, take, drop}
 use Rattle.wire.specs.Rules.{lengthWrong}
 use Rattle.wire.proofs.Stores.{part-rest}
+use Rattle.kad.specs.Kad.{noKads}
 use Rattle.kad.specs.Reading.{readKads}
 use Rattle.kad.specs.declared.Listed.{Listed}
+use Rattle.kad.proofs.Few.{list-few}
 use Rattle.status.specs.Rules.{descriptorsFrom}
 use Rattle.status.specs.Reading.{readOf, valuesWith}
 use Rattle.status.specs.declared.Status.{Status}
@@ -34,6 +37,10 @@ rest-read p e = e ∙ ap (λ (t : List ℕ). readKads t) (part-rest p descriptor
 end-read : (p : List ℕ) {r : Listed} → r ≡ readKads (take (length p - descriptorsFrom) (drop descriptorsFrom p)) → descriptorsFrom + r .good ≡ descriptorsFrom + readKads (drop descriptorsFrom p) .good
 end-read p e = ap (λ (r : Listed). descriptorsFrom + r .good) (rest-read p e)
 
+-- of which few bytes are read
+few-read : (p : List ℕ) {r : Listed} → r ≡ readKads (take (length p - descriptorsFrom) (drop descriptorsFrom p)) → r .good ≤ 55
+few-read p e = rw e (list-few _ (take (length p - descriptorsFrom) (drop descriptorsFrom p)) noKads)
+
 pub read-status-spec : {M : Type 1} → statement M
 read-status-spec =
     tie.close
@@ -44,6 +51,7 @@ read-status-spec =
     let at-length = c .before .before in
     c .refuse .ensures ∙ sym (refused-length (now (at-length .before .before .args .page)) (sym (at-length .is-length-wrong .ensures) ∙ c .before .if1 .taken)))
     (λ c κs. has-head c)
+    (λ c. let before = c .if2 .taken in omega arith)
     (λ c κs. search needs)
     (λ c.
     let at-head = c .before .before in
@@ -54,6 +62,10 @@ read-status-spec =
     (λ c. search needs)
     (λ c κs. search needs)
     (λ c. search needs)
+    (λ c.
+    let at-list = c .before .before in
+    let few = few-read (page (at-list .before .before .before .before)) (at-list .read .ensures .0) in
+    omega arith)
     (λ c κs. search needs)
     (λ c.
     let at-list = c .before .before .before in
