@@ -1,4 +1,4 @@
-//! The record's bytes, as design.md, "The second account, and the drive on a pipe", orders them.
+//! The record's bytes, as docs/CONSOLE.md, "The record", orders them.
 
 use crate::record::{Kad, Nexus, Record, Set};
 use crate::sizes::{A_KAD_BYTES, KEY_BYTES, NEXUSES, PLACES, SUPPLEMENTAL_KEYS, U_KAD_BYTES};
@@ -13,7 +13,7 @@ pub const NEXUS_BYTES: usize = 2 + 4 + 4 + 3;
 /// The whole record: 1,317 bytes.
 pub const RECORD_BYTES: usize = COUNTER_BYTES + PLACES * PLACE_BYTES + NEXUSES * NEXUS_BYTES;
 
-/// Gives the record's bytes (design.md: "255 gives the record").
+/// Gives the record's bytes (docs/CONSOLE.md: 255, "give the device record").
 pub fn give(record: &Record) -> Vec<u8> {
     let mut bytes = Vec::with_capacity(RECORD_BYTES);
     bytes.extend(record.counter.to_be_bytes());
@@ -26,7 +26,7 @@ pub fn give(record: &Record) -> Vec<u8> {
     bytes
 }
 
-/// design.md: "for each place owner, scope, ... A-KAD length, 12 bytes".
+/// docs/CONSOLE.md: the table of a set.
 fn give_place(set: &Set, bytes: &mut Vec<u8>) {
     bytes.extend([set.owner, set.scope, set.encryption, set.decryption, set.index]);
     bytes.extend(set.number.to_be_bytes());
@@ -41,7 +41,7 @@ fn give_place(set: &Set, bytes: &mut Vec<u8>) {
     bytes.extend(set.a_kad.bytes);
 }
 
-/// design.md: "for each nexus scope, lock, ... flag "vendor event"".
+/// docs/CONSOLE.md: the table of a nexus.
 fn give_nexus(nexus: &Nexus, bytes: &mut Vec<u8>) {
     bytes.extend([nexus.scope, u8::from(nexus.lock)]);
     bytes.extend(nexus.saved_at_lock.to_be_bytes());
@@ -51,7 +51,7 @@ fn give_nexus(nexus: &Nexus, bytes: &mut Vec<u8>) {
     );
 }
 
-/// Loads a record; nothing for "a yes/no byte above 1 in a record, or one of another length" (design.md).
+/// Loads a record; nothing for "Data of another length, or with a yes/no byte above 1" (docs/CONSOLE.md).
 pub fn load(bytes: &[u8]) -> Option<Record> {
     if bytes.len() != RECORD_BYTES {
         return None;
@@ -127,7 +127,7 @@ impl Reader<'_> {
         *taken
     }
 
-    /// design.md: "Numbers big-endian."
+    /// docs/CONSOLE.md: "Numbers are big-endian."
     fn number(&mut self) -> u32 {
         u32::from_be_bytes(self.take())
     }
@@ -138,7 +138,7 @@ impl Reader<'_> {
         Kad { length, bytes: self.take() }
     }
 
-    /// design.md: a yes/no byte is 0 or 1.
+    /// docs/CONSOLE.md: "A yes is 1 and a no is 0."
     fn yes_or_no(&mut self) -> Option<bool> {
         match self.take() {
             [0] => Some(false),

@@ -9,7 +9,7 @@ use native.Mathlib.Omega.{arith}
 use borrow.Author.Tests.{eqb-true, eqb-false, eq-eqb, lt-leb}
 use lib.Dec.{eqb}
 use lib.ListN.{length, length-append}
-use Rattle.arrays.specs.Base.{bit}
+use Rattle.arrays.specs.Base.{bit, Exactly}
 use Rattle.arrays.proofs.Base.{cases, clash, both, and-both, if-false}
 use Rattle.arrays.proofs.Appending.{count-append, count-cons}
 use Rattle.answer.specs.Answers.{numberOf, isDone}
@@ -24,7 +24,7 @@ use Rattle.drive.specs.Checks.{answer}
 use Rattle.drive.specs.After.{after}
 use Rattle.drive.specs.Runs.{runFrom, run}
 use Rattle.drive.specs.Outcomes.{valueOf}
-use Rattle.due.specs.Due.{Heard, modeOf, Passes, becomes, Exactly}
+use Rattle.due.specs.Due.{Heard, modeOf, Passes, becomes}
 use Rattle.drive.specs.declared.Decision.{Decision}
 use Rattle.drive.specs.declared.Decision.the-variants.{Refused, Clear, External, Encrypted}
 use Rattle.due.proofs.Due.{write-due, write-becomes}

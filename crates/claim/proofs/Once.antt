@@ -9,7 +9,7 @@ use native.Mathlib.Omega.{arith}
 use borrow.Author.Tests.{eqb-false, ne-eqb, ltb-true, ltb-false, lt-ltb, le-ltb}
 use lib.Dec.{eqb, ltb}
 use lib.ListN.{length, getD}
-use Rattle.arrays.specs.Base.{bit}
+use Rattle.arrays.specs.Base.{bit, Exactly}
 use Rattle.arrays.proofs.Base.{cases, if-true, if-false}
 use Rattle.arrays.proofs.Appending.{count-append}
 use Rattle.device.specs.Record.{State, powerOn}
@@ -18,7 +18,7 @@ use Rattle.places.proofs.Lengths.{power-nexuses}
 use Rattle.drive.specs.Calls.{Call, powerUp, securityIn, securityOut, write, read, unitReset, happens}
 use Rattle.drive.specs.After.{after}
 use Rattle.drive.specs.Outcomes.{valueOf, decision}
-use Rattle.due.specs.Due.{becomes, Exactly}
+use Rattle.due.specs.Due.{becomes}
 use Rattle.drive.specs.declared.Decision.{Decision}
 use Rattle.drive.specs.declared.Decision.the-variants.{Refused, Clear, External, Encrypted}
 use Rattle.due.proofs.Due.{sent-due}

@@ -12,7 +12,7 @@ use Rattle.arrays.proofs.Base.{if-true, if-false}
 use Rattle.wire.specs.Numbers.{byteAt, word, wordAt, two}
 use Rattle.wire.proofs.Numbers.{word-two}
 use Rattle.device.specs.Record.{State}
-use Rattle.status.proofs.Lowest.{status-judged}
+use Rattle.status.proofs.Pointing.{status-judged}
 use Rattle.drive.proofs.Pointing.{page-points}
 use Rattle.calls.specs.Asking.{callOf}
 use Rattle.calls.specs.declared.Asked.{Asked}

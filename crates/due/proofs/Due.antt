@@ -8,6 +8,7 @@ use native.Mathlib.Omega.{arith}
 use borrow.Author.Tests.{eqb-true, eq-eqb, ne-eqb, le-leb, lt-leb, leb-false, ltb-true, ltb-false, not-false}
 use lib.Dec.{eqb, ltb}
 use lib.ListN.{length, List·getD-eq-default}
+use Rattle.arrays.specs.Base.{Exactly}
 use Rattle.arrays.proofs.Base.{cases, clash, if-true, if-false}
 use Rattle.answer.specs.Answers.{isDone}
 use Rattle.answer.specs.declared.Answer.{Answer}
@@ -26,7 +27,7 @@ use Rattle.drive.specs.Calls.{Call, powerUp, securityIn, securityOut, write, re
 use Rattle.drive.specs.Checks.{firstOf, check1, check5, check6, check10, pageChecked, heardOf, commandedOf, permitted, checks, answer, instanceChanged, notUsable}
 use Rattle.drive.specs.Restoring.{restored}
 use Rattle.drive.specs.Outcomes.{decided, valueOf, decision}
-use Rattle.due.specs.Due.{SentDue, CommandDue, InDue, Held, modeOf, WriteDue, Passes, becomes, Exactly, Becomes}
+use Rattle.due.specs.Due.{SentDue, CommandDue, InDue, Held, modeOf, WriteDue, Passes, becomes, Becomes}
 use Rattle.drive.proofs.Checks.{all-done, passed}
 
 -- the checks of a page

@@ -4,6 +4,7 @@ use Prim.Native.Nat.{ℕ, _≤_, _<_}
 use mathlib.Core.Path.{_≡_}
 use mathlib.Core.Bool.{Bool, true, false}
 use lib.ListN.{length}
+use Rattle.arrays.specs.Base.{Exactly}
 use Rattle.answer.specs.declared.Answer.{Answer}
 use Rattle.answer.specs.declared.Answer.the-variants.{Done, NotWellFormed, NexusAbove, ChangedByAnotherNexus, ChangedByVendorEvent, ProtocolNotSupported, PageNotSupported, KeyInstanceChanged, ParametersNotUsable}
 use Rattle.parameters.specs.Codes.{disable, external, encrypt}
@@ -77,10 +78,6 @@ pub record Passes (s : State) (n : ℕ) (supported : Bool) (mode : ℕ) : Type 0
 -- what becomes of nexus n's block
 abbrev pub becomes : State → ℕ → Bool → Decision
 becomes s n supported = decision s n (answer s (write n supported))
-
--- the one exactly if the other
-abbrev pub Exactly : Type 0 → Type 0 → Type 0
-Exactly A B = (A → B) × (B → A)
 
 -- each of them exactly if the write passes under the mode of its name
 pub record Becomes (s : State) (n : ℕ) (supported : Bool) : Type 0 where

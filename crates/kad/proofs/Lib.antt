@@ -5,4 +5,5 @@ pub mod Few
 pub mod RoundTrip
 pub mod Accepted
 pub mod Lowest
+pub mod Pointing
 pub mod Worked

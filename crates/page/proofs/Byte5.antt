@@ -105,7 +105,7 @@ module _ (p : List ℕ) (scope mode count : ℕ) where
   -- A page that is refused at byte 5 is LOCAL or ALL with SDK 0, right up to byte 4, with RDMC 01b under ENCRYPT or CEEM 10b or 11b and decryption DISABLE.
   pub byte-5-due : WrongAt 5 (checked p scope mode count) → MakesSet p × Byte5Fault p
   byte-5-due w =
-      let low : Lowest 5 (pageRules p scope mode) = page-verdict p scope mode count .lowest 5 w in
+      let low : Lowest 5 (pageRules p scope mode) = page-verdict (lengthWrong keyFrom p ≡ false) p scope mode count (λ f. f) .lowest 5 w in
       let f = inner-fault p scope mode (inner-breaks low) in
       let makes : MakesSet p = record {
         sized = fault-sized w;

@@ -1,7 +1,7 @@
 -- The byte of answer 8 is the lowest at which a rule of the page breaks, over its rules in the order of their bytes.
 -- Assumes nothing.
 use mathlib.Core.Path.{_≡_, refl, sym, _∙_}
-use mathlib.Core.Bool.{true}
+use mathlib.Core.Bool.{true, false}
 use mathlib.Core.Logic.{_⊎_, inl, inr}
 use mathlib.Core.List.{List, [], _∷_, _++_}
 use Prim.Native.Nat.{ℕ, _+_, _^_, _<_, _≤_}
@@ -11,7 +11,7 @@ use borrow.Author.Tests.{ltb-true, ltb-false, leb-true, le-leb}
 use lib.Dec.{ltb, leb}
 use lib.ListN.{length, drop, length-drop}
 use Rattle.arrays.specs.Base.{if_then_else_}
-use Rattle.arrays.proofs.Base.{cases, if-elim}
+use Rattle.arrays.proofs.Base.{cases, clash, if-elim}
 use Rattle.wire.specs.Rules.{lengthWrong, Rule, rule, breach}
 use Rattle.wire.proofs.Rules.{AllHold, Under, kept, none, low, high, Sorted, sorted-from, sorted-append, hold-append, under-append, under-more, zeros-sorted}
 use Rattle.wire.proofs.Lowest.{right-length, breach-under, lowest-of}
@@ -182,23 +182,23 @@ supplemental-all p scope mode h =
 -- ---- the whole check
 
 -- what is said of an answer to the page
-abbrev Verdict : List ℕ → List Rule → Checked → Type 0
-Verdict p rules c = Judged keyFrom rules p (c .answer)
+abbrev Verdict : Type 0 → List ℕ → List Rule → Checked → Type 0
+Verdict asked p rules c = Judged asked rules p (c .answer)
 
-module _ (p : List ℕ) (ys : List Rule) (sorted : Sorted 4 ys) (opens : AllHold (openRules p)) where
+module _ (asked : Type 0) (p : List ℕ) (ys : List Rule) (sorted : Sorted 4 ys) (opens : AllHold (openRules p)) where
   -- where the page code and the scope are right, a breach of the others before the page's end is the lowest
-  others-wrong : (i : ℕ) → i ≡ breach ys (length p) → i < length p → i < 2 ^ 16 → Verdict p (openRules p ++ ys) (refusedPage (FieldWrong i))
+  others-wrong : (i : ℕ) → i ≡ breach ys (length p) → i < length p → i < 2 ^ 16 → Verdict asked p (openRules p ++ ys) (refusedPage (FieldWrong i))
   others-wrong i e l small =
       let first = high (openRules p) ys (length p) 5 5 (open-under p) (sym (none (openRules p) 5 opens)) (le-refl 5) in
-      judged-wrong keyFrom (openRules p ++ ys) p _ i (lowest-of (openRules p ++ ys) (length p) i (open-sorted p ys sorted) (e ∙ sym first) l) l small refl
+      judged-wrong asked (openRules p ++ ys) p _ i (lowest-of (openRules p ++ ys) (length p) i (open-sorted p ys sorted) (e ∙ sym first) l) l small refl
 
   -- and where the others hold, the page is done
-  others-right : (a : Answer) → (a ≡ Done) ⊎ (a ≡ FifthSupplementalKey) → AllHold ys → Judged keyFrom (openRules p ++ ys) p a
-  others-right a t h = judged-right keyFrom (openRules p ++ ys) p a (hold-append (openRules p) ys opens h) t
+  others-right : (a : Answer) → (a ≡ Done) ⊎ (a ≡ FifthSupplementalKey) → AllHold ys → Judged asked (openRules p ++ ys) p a
+  others-right a t h = judged-right asked (openRules p ++ ys) p a (hold-append (openRules p) ys opens h) t
 
-module _ (p : List ℕ) (long : keyFrom ≤ length p) (opens : AllHold (openRules p)) where
+module _ (asked : Type 0) (p : List ℕ) (long : keyFrom ≤ length p) (opens : AllHold (openRules p)) where
   -- a page with SDK 1
-  supplemental-verdict : (scope mode count : ℕ) → Verdict p (openRules p ++ supplementalRules p scope mode) (supplementalPage p scope mode count)
+  supplemental-verdict : (scope mode count : ℕ) → Verdict asked p (openRules p ++ supplementalRules p scope mode) (supplementalPage p scope mode count)
   unfolding supplementalPage
   supplemental-verdict scope mode count =
       let rules = supplementalRules p scope mode in
@@ -207,14 +207,14 @@ module _ (p : List ℕ) (long : keyFrom ≤ length p) (opens : AllHold (openRule
       cases (ltb fault (length p))
       (λ t.
       let lt = ltb-true fault (length p) t in
-      rw t (others-wrong p rules sorted opens fault refl lt (supplemental-fits p scope mode fault refl lt)))
+      rw t (others-wrong asked p rules sorted opens fault refl lt (supplemental-fits p scope mode fault refl lt)))
       (λ t.
       let all = supplemental-all p scope mode (supplemental-hold p scope mode long (ltb-false fault (length p) t)) in
-      cases (leb supplementalMost count) (λ u. rw (t, u) (others-right p rules sorted opens FifthSupplementalKey (inr refl) all))
-      (λ u. rw (t, u) (others-right p rules sorted opens Done (inl refl) all)))
+      cases (leb supplementalMost count) (λ u. rw (t, u) (others-right asked p rules sorted opens FifthSupplementalKey (inr refl) all))
+      (λ u. rw (t, u) (others-right asked p rules sorted opens Done (inl refl) all)))
 
   -- a page with SDK 0
-  set-verdict : Verdict p (openRules p ++ (setRules p ++ afterRules p)) (setPage p)
+  set-verdict : Verdict asked p (openRules p ++ (setRules p ++ afterRules p)) (setPage p)
   unfolding setPage
   set-verdict =
       let n = length p in
@@ -226,21 +226,21 @@ module _ (p : List ℕ) (long : keyFrom ≤ length p) (opens : AllHold (openRule
       cases (ltb fault n)
       (λ t.
       let lt = ltb-true fault n t in
-      rw t (others-wrong p rules sorted opens fault (sym (low (setRules p) (afterRules p) n n fault refl lt)) lt (set-fits p fault refl lt)))
+      rw t (others-wrong asked p rules sorted opens fault (sym (low (setRules p) (afterRules p) n n fault refl lt)) lt (set-fits p fault refl lt)))
       (λ t.
       let le = ltb-false fault n t in
       let held = set-hold p long le in
       let key = key-fits p _ (held .1 .1) in
       let fits = key .1 in
       cases (ltb end n)
-      (λ u. rw (t, u) (others-wrong p rules sorted opens end (after-fault p fits ∙ sym (high (setRules p) (afterRules p) n n fault under refl le)) (ltb-true end n u) (end-fits p (key .0))))
-      (λ u. rw (t, u) (others-right p rules sorted opens Done (inl refl) (hold-append (setRules p) (afterRules p) (set-all p held) (after-hold p fits (ltb-false end n u))))))
+      (λ u. rw (t, u) (others-wrong asked p rules sorted opens end (after-fault p fits ∙ sym (high (setRules p) (afterRules p) n n fault under refl le)) (ltb-true end n u) (end-fits p (key .0))))
+      (λ u. rw (t, u) (others-right asked p rules sorted opens Done (inl refl) (hold-append (setRules p) (afterRules p) (set-all p held) (after-hold p fits (ltb-false end n u))))))
 
 -- A page's answer is judged by the lowest byte at which a rule breaks.
-pub page-verdict : (p : List ℕ) (scope mode count : ℕ) → Verdict p (pageRules p scope mode) (checked p scope mode count)
+pub page-verdict : (asked : Type 0) (p : List ℕ) (scope mode count : ℕ) → (asked → lengthWrong keyFrom p ≡ false) → Verdict asked p (pageRules p scope mode) (checked p scope mode count)
 unfolding checked innerRules publicPage
-page-verdict p scope mode count =
-    cases (lengthWrong keyFrom p) (λ e. rw e (judged-short keyFrom (pageRules p scope mode) p _ e refl))
+page-verdict asked p scope mode count sized =
+    cases (lengthWrong keyFrom p) (λ e. rw e (judged-short asked (pageRules p scope mode) p _ (λ a. clash e (sized a)) refl))
     (λ e.
     let long = right-length keyFrom p e .0 in
     let n = length p in
@@ -249,11 +249,11 @@ page-verdict p scope mode count =
     cases (ltb fault n)
     (λ t.
     let lt = ltb-true fault n t in
-    rw (e, t) (judged-wrong keyFrom (pageRules p scope mode) p _ fault (lowest-of (pageRules p scope mode) n fault (page-sorted p scope mode) (sym (low (openRules p) (innerRules p scope mode) n n fault refl lt)) lt) lt (open-fits p fault refl lt) refl))
+    rw (e, t) (judged-wrong asked (pageRules p scope mode) p _ fault (lowest-of (pageRules p scope mode) n fault (page-sorted p scope mode) (sym (low (openRules p) (innerRules p scope mode) n n fault refl lt)) lt) lt (open-fits p fault refl lt) refl))
     (λ t.
     let opens = kept (openRules p) n n under (ltb-false fault n t) in
-    cases (isPublic p) (λ u. rw (e, t, u) (others-right p [] tt opens Done (inl refl) tt))
-    (λ u. cases (sdkOf p) (λ v. rw (e, t, u, v) (supplemental-verdict p long opens scope mode count)) (λ v. rw (e, t, u, v) (set-verdict p long opens)))))
+    cases (isPublic p) (λ u. rw (e, t, u) (others-right asked p [] tt opens Done (inl refl) tt))
+    (λ u. cases (sdkOf p) (λ v. rw (e, t, u, v) (supplemental-verdict asked p long opens scope mode count)) (λ v. rw (e, t, u, v) (set-verdict asked p long opens)))))
 
 -- a page whose length is wrong is answered 7
 pub length-verdict : (p : List ℕ) (scope mode count : ℕ) → lengthWrong keyFrom p ≡ true → checked p scope mode count ≡ refusedPage PageLengthWrong

@@ -1,5 +1,6 @@
 pub mod Fields
 pub mod Rules
 pub mod Check
-pub mod Lowest
+pub mod Pointing
+pub mod Faults
 pub mod Byte5

@@ -1,16 +1,14 @@
 -- How an answer is judged: by the page's length, by the first rule that breaks, or by all that hold.
 -- Assumes nothing.
 use mathlib.Core.Path.{_≡_, sym, ap, _∙_}
-use mathlib.Core.Bool.{true}
 use mathlib.Core.Logic.{_⊎_, ⊎-elim}
 use mathlib.Core.List.{List}
 use Prim.Native.Nat.{ℕ, _^_, _<_}
 use native.Mathlib.Omega.{arith}
 use lib.ListN.{length}
-use Rattle.arrays.proofs.Base.{clash}
-use Rattle.wire.specs.Rules.{Rule, lengthWrong, Lowest}
+use Rattle.wire.specs.Rules.{Rule, Lowest}
 use Rattle.wire.proofs.Rules.{AllHold}
-use Rattle.wire.proofs.Lowest.{hold-none, Same, lowest-same, lowest-one}
+use Rattle.wire.proofs.Lowest.{hold-none, Same, lowest-same, lowest-one, same-back}
 use Rattle.answer.specs.Answers.{numberOf, faultyByteOf}
 use Rattle.answer.specs.declared.Answer.{Answer}
 use Rattle.answer.specs.declared.Answer.the-variants.{Done, PageLengthWrong, FieldWrong, FifthSupplementalKey}
@@ -21,19 +19,19 @@ use Rattle.pointing.specs.Judged.{Judged}
 neither : {C : Type 0} {a : Answer} (x : Answer) → (numberOf x ≡ 0 → ⊥) → (numberOf x ≡ 9 → ⊥) → a ≡ x → (a ≡ Done) ⊎ (a ≡ FifthSupplementalKey) → C
 neither x n m e t = ⊎-elim (λ d. differ x Done n e d) (λ d. differ x FifthSupplementalKey m e d) t
 
-module _ (least : ℕ) (rules : List Rule) (p : List ℕ) (a : Answer) where
+module _ (asked : Type 0) (rules : List Rule) (p : List ℕ) (a : Answer) where
   -- a wrong length
-  pub judged-short : lengthWrong least p ≡ true → a ≡ PageLengthWrong → Judged least rules p a
+  pub judged-short : (asked → ⊥) → a ≡ PageLengthWrong → Judged asked rules p a
   judged-short t e = record {
     lowest = λ b w. differ PageLengthWrong (FieldWrong b) (λ z. omega arith) e w;
     within = λ b w. differ PageLengthWrong (FieldWrong b) (λ z. omega arith) e w;
     fits = λ b w. differ PageLengthWrong (FieldWrong b) (λ z. omega arith) e w;
-    told = λ b f l. clash t f;
+    told = λ b f l. absurd (t f);
     none = λ d i b. neither PageLengthWrong (λ z. omega arith) (λ z. omega arith) e d;
   }
 
   -- a rule that breaks
-  pub judged-wrong : (b : ℕ) → Lowest b rules → b < length p → b < 2 ^ 16 → a ≡ FieldWrong b → Judged least rules p a
+  pub judged-wrong : (b : ℕ) → Lowest b rules → b < length p → b < 2 ^ 16 → a ≡ FieldWrong b → Judged asked rules p a
   judged-wrong b l before small e = record {
     lowest = λ c w. rw (← same c w) l;
     within = λ c w. rw (← same c w) before;
@@ -45,7 +43,7 @@ module _ (least : ℕ) (rules : List Rule) (p : List ℕ) (a : Answer) where
     same c w = ap faultyByteOf (sym e ∙ w)
 
   -- rules that hold
-  pub judged-right : AllHold rules → (a ≡ Done) ⊎ (a ≡ FifthSupplementalKey) → Judged least rules p a
+  pub judged-right : AllHold rules → (a ≡ Done) ⊎ (a ≡ FifthSupplementalKey) → Judged asked rules p a
   judged-right h t = record {
     lowest = λ b w. neither (FieldWrong b) (λ z. omega arith) (λ z. omega arith) w t;
     within = λ b w. neither (FieldWrong b) (λ z. omega arith) (λ z. omega arith) w t;
@@ -55,11 +53,11 @@ module _ (least : ℕ) (rules : List Rule) (p : List ℕ) (a : Answer) where
   }
 
 -- the same rules in another order
-pub judged-same : (least : ℕ) (xs ys : List Rule) (p : List ℕ) (a : Answer) → Same xs ys → Judged least xs p a → Judged least ys p a
-judged-same least xs ys p a s j = record {
-  lowest = λ b w. lowest-same b xs ys (s .to) (s .from) (j .lowest b w);
+pub judged-same : {asked : Type 0} {xs ys : List Rule} {p : List ℕ} {a : Answer} → Same xs ys → Judged asked xs p a → Judged asked ys p a
+judged-same s j = record {
+  lowest = λ b w. lowest-same b s (j .lowest b w);
   within = j .within;
   fits = j .fits;
-  told = λ b f l. j .told b f (lowest-same b ys xs (s .from) (s .to) l);
+  told = λ b f l. j .told b f (lowest-same b (same-back s) l);
   none = λ d i b. j .none d i (s .from i b);
 }

@@ -1,23 +1,22 @@
 -- Document 02, request 6: "Answer 8 now carries the number of the faulty byte: the lowest-numbered byte of the page at which a rule of 01 first
--- breaks." What an answer a to page p says of the page's rules, in whatever order they stand; a page has so many bytes at least.
+-- breaks." What an answer a to page p says of the page's rules, in whatever order they stand; asked is that no earlier answer is due.
 use Prim.Native.Nat.{ℕ, _^_, _<_}
 use mathlib.Core.Path.{_≡_}
-use mathlib.Core.Bool.{false}
 use mathlib.Core.Logic.{_⊎_}
 use mathlib.Core.List.{List}
 use lib.ListN.{length}
-use Rattle.wire.specs.Rules.{Rule, lengthWrong, BreaksAt, Lowest}
+use Rattle.wire.specs.Rules.{Rule, BreaksAt, Lowest}
 use Rattle.answer.specs.declared.Answer.{Answer}
 use Rattle.answer.specs.declared.Answer.the-variants.{Done, FieldWrong, FifthSupplementalKey}
 
-pub record Judged (least : ℕ) (rules : List Rule) (p : List ℕ) (a : Answer) : Type 0 where
+pub record Judged (asked : Type 0) (rules : List Rule) (p : List ℕ) (a : Answer) : Type 0 where
   -- answer 8 with byte b: a rule breaks at b, and none at a lower byte
   pub lowest : (b : ℕ) → a ≡ FieldWrong b → Lowest b rules
   -- b is a byte "of the page"
   pub within : (b : ℕ) → a ≡ FieldWrong b → b < length p
   -- whose number fits the two bytes of a field pointer
   pub fits : (b : ℕ) → a ≡ FieldWrong b → b < 2 ^ 16
-  -- and so a page is answered, unless by 7, wherever a rule breaks
-  pub told : (b : ℕ) → lengthWrong least p ≡ false → Lowest b rules → a ≡ FieldWrong b
+  -- and so a page is answered, where it is asked about, wherever a rule breaks
+  pub told : (b : ℕ) → asked → Lowest b rules → a ≡ FieldWrong b
   -- answer 0, and answer 9: none breaks
   pub none : (a ≡ Done) ⊎ (a ≡ FifthSupplementalKey) → (i : ℕ) → BreaksAt i rules → ⊥

@@ -16,10 +16,14 @@ pub use Rattle.kad.proofs.RoundTrip.{read-of-written as kad-read-of-written, wr
 -- Document 02, request 6: where the page check, or the status reader, answers 8 with a byte, a rule of 01 breaks there and none at a lower byte, over
 -- one list of the rules in 01's order; where it answers 0, or 9, none breaks; the byte is one of the page's; and so 8 is answered wherever a
 -- rule breaks and the length is right.
-pub use Rattle.page.proofs.Judged.{page-judged}
-pub use Rattle.status.proofs.Lowest.{status-judged}
+pub use Rattle.page.proofs.Pointing.{page-judged}
+pub use Rattle.status.proofs.Pointing.{status-judged}
+-- Those rules in plain relations: they break at a byte exactly if the page is wrong there.
+pub use Rattle.kad.proofs.Pointing.{descriptor-due, list-faults}
+pub use Rattle.page.proofs.Faults.{page-faults}
+pub use Rattle.status.proofs.Faults.{status-faults}
 -- The same of a page that is sent, over every record and nexus; and no other call is answered 8.
-pub use Rattle.drive.proofs.Pointing.{page-points, lowest-told, only-pages-point}
+pub use Rattle.drive.proofs.Pointing.{page-points, only-pages-point}
 -- Its sentences, and every two faults of a page, from their bytes; and through the calls.
 pub use Rattle.page.proofs.PointingTable.{sentences-computed as page-sentences-computed, pairs-computed as page-faults-computed}
 pub use Rattle.status.proofs.PointingTable.{sentences-computed as status-sentences-computed, pairs-computed as status-faults-computed}

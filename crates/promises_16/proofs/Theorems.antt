@@ -6,6 +6,7 @@ use mathlib.Core.List.{List, [], _∷_, _++_}
 use mathlib.Core.Path.{_≡_, refl, sym, ap, subst, _∙_}
 use lib.Dec.{lit<, lit≤}
 use lib.ListN.{length, take, drop}
+use Rattle.arrays.specs.Base.{Exactly}
 use Rattle.wire.specs.Buffers.{shown}
 use Rattle.wire.specs.Parts.{joined}
 use Rattle.wire.proofs.Bytes.{Below}
@@ -14,7 +15,6 @@ use Rattle.device.specs.Record.{State, nexusAt, powerOn}
 use Rattle.device.specs.Selecting.{selected, selectedSet}
 use Rattle.device.specs.WellFormed.{wellFormed}
 use Rattle.drive.specs.Calls.{Call, write}
-use Rattle.due.specs.Due.{Exactly}
 use Rattle.drive.specs.declared.Decision.the-variants.{Encrypted}
 use Rattle.drive.specs.Checks.{pageChecked, answer}
 use Rattle.drive.specs.Runs.{runFrom, run}

@@ -1,6 +1,7 @@
 pub mod Bytes
 pub mod Reading
-pub mod Lowest
+pub mod Pointing
+pub mod Faults
 pub mod RoundTrip
 pub mod Worked
 pub mod PointingTable

@@ -1,17 +1,19 @@
 -- What the first breach tells of all rules of a page: those before it hold, and where they stand in the order of their bytes it is the lowest.
 -- Assumes nothing.
-use mathlib.Core.Path.{_≡_}
-use mathlib.Core.Bool.{true, false, not}
-use mathlib.Core.Logic.{inl, inr, ⊎-elim}
+use mathlib.Core.Path.{_≡_, sym}
+use mathlib.Core.Bool.{Bool, true, false, not}
+use mathlib.Core.Logic.{_⊎_, inl, inr, ⊎-elim}
 use mathlib.Core.List.{List, [], _∷_, _++_}
-use Prim.Native.Nat.{ℕ, _+_, _<_, _≤_}
-use native.Mathlib.Nat.{le-refl, le-antisymm, le-of-lt, not-le-of-lt, zero-add}
+use Prim.Native.Nat.{ℕ, zero, suc, _+_, _<_, _≤_}
+use native.Mathlib.Nat.{le-refl, le-of-eq, le-antisymm, le-of-lt, not-le-of-lt, zero-add}
 use native.Mathlib.Omega.{arith}
-use borrow.Author.Tests.{eqb-true, ltb-false, not-false}
+use borrow.Author.Tests.{eqb-true, eqb-false, ltb-true, ltb-false, ne-eqb, not-false}
 use lib.Dec.{ltb, eqb}
-use lib.ListN.{length}
-use Rattle.arrays.proofs.Base.{clash, or-left-false, or-right-false, if-elim}
-use Rattle.wire.specs.Numbers.{wordAt}
+use lib.ListN.{length, take, drop, drop-of-length-le, List·getD-eq-default}
+use lib.Seq.{drop-cons}
+use Rattle.arrays.specs.Base.{Exactly}
+use Rattle.arrays.proofs.Base.{cases, clash, exactly-and, or-left-false, or-right-false, if-elim}
+use Rattle.wire.specs.Numbers.{byteAt, wordAt}
 use Rattle.wire.specs.Rules.{lengthWrong, Rule, breach, BreaksAt, Lowest, zeroRules}
 use Rattle.wire.proofs.Rules.{AllHold, Under, Sorted, lowest, breaks, zeros-under}
 
@@ -71,10 +73,6 @@ pub record Same (xs ys : List Rule) : Type 0 where
   pub to : (i : ℕ) → BreaksAt i xs → BreaksAt i ys
   pub from : (i : ℕ) → BreaksAt i ys → BreaksAt i xs
 
--- and then their lowest byte is the same
-pub lowest-same : (i : ℕ) (xs ys : List Rule) → ((j : ℕ) → BreaksAt j xs → BreaksAt j ys) → ((j : ℕ) → BreaksAt j ys → BreaksAt j xs) → Lowest i xs → Lowest i ys
-lowest-same i xs ys to from l = record { broken = to i (l .broken); least = λ j b. l .least j (from j b) }
-
 -- rules of two lists: a breach of the first's,
 pub breaks-left : (i : ℕ) (xs ys : List Rule) → BreaksAt i xs → BreaksAt i (xs ++ ys)
 breaks-left i [] ys b = absurd b
@@ -89,3 +87,83 @@ breaks-right i (r ∷ xs) ys b = inr (breaks-right i xs ys b)
 pub breaks-either : {C : Type 0} (i : ℕ) (xs ys : List Rule) → (BreaksAt i xs → C) → (BreaksAt i ys → C) → BreaksAt i (xs ++ ys) → C
 breaks-either i [] ys f g b = g b
 breaks-either i (r ∷ xs) ys f g b = ⊎-elim (λ x. f (inl x)) (λ x. breaks-either i xs ys (λ y. f (inr y)) g x) b
+
+-- their lowest byte is the same
+pub lowest-same : (i : ℕ) {xs ys : List Rule} → Same xs ys → Lowest i xs → Lowest i ys
+lowest-same i s l = record { broken = s .to i (l .broken); least = λ j b. l .least j (s .from j b) }
+
+-- the other way round
+pub same-back : {xs ys : List Rule} → Same xs ys → Same ys xs
+same-back s = record { to = s .from; from = s .to }
+
+-- one after the other
+pub same-then : {xs ys zs : List Rule} → Same xs ys → Same ys zs → Same xs zs
+same-then s t = record { to = λ i b. t .to i (s .to i b); from = λ i b. s .from i (t .from i b) }
+
+-- two lists, each by its own
+pub same-both : (xs ys us vs : List Rule) → Same xs us → Same ys vs → Same (xs ++ ys) (us ++ vs)
+same-both xs ys us vs s t = record {
+  to = λ i. breaks-either i xs ys (λ x. breaks-left i us vs (s .to i x)) (λ y. breaks-right i us vs (t .to i y));
+  from = λ i. breaks-either i us vs (λ x. breaks-left i xs ys (s .from i x)) (λ y. breaks-right i xs ys (t .from i y));
+}
+
+pub same-self : (xs : List Rule) → Same xs xs
+same-self xs = record { to = λ i b. b; from = λ i b. b }
+
+-- the second
+pub same-after : (xs ys zs : List Rule) → Same ys zs → Same (xs ++ ys) (xs ++ zs)
+same-after xs ys zs t = same-both xs ys xs zs (same-self xs) t
+
+-- in the other order
+swap : (i : ℕ) (xs ys : List Rule) → BreaksAt i (xs ++ ys) → BreaksAt i (ys ++ xs)
+swap i xs ys = breaks-either i xs ys (breaks-right i ys xs) (breaks-left i ys xs)
+
+pub same-swap : (xs ys : List Rule) → Same (xs ++ ys) (ys ++ xs)
+same-swap xs ys = record { to = λ i. swap i xs ys; from = λ i. swap i ys xs }
+
+-- and before a third
+move : (i : ℕ) (xs ys zs : List Rule) → BreaksAt i (xs ++ (ys ++ zs)) → BreaksAt i (ys ++ (xs ++ zs))
+move i xs ys zs =
+    breaks-either i xs (ys ++ zs) (λ x. breaks-right i ys (xs ++ zs) (breaks-left i xs zs x))
+    (breaks-either i ys zs (breaks-left i ys (xs ++ zs)) (λ z. breaks-right i ys (xs ++ zs) (breaks-right i xs zs z)))
+
+pub same-move : (xs ys zs : List Rule) → Same (xs ++ (ys ++ zs)) (ys ++ (xs ++ zs))
+same-move xs ys zs = record { to = λ i. move i xs ys zs; from = λ i. move i ys xs zs }
+
+-- ---- rules in plain relations
+
+-- a rule breaks at byte i exactly if it points there and what it asks isn't so
+pub rule-due : (i k : ℕ) {b : Bool} {R : Type 0} → Exactly (b ≡ false) R → Exactly ((k ≡ i) × (b ≡ false)) ((i ≡ k) × R)
+rule-due i k f = exactly-and (λ e. sym e, λ e. sym e) f
+
+-- of two lists
+pub breaks-append : (i : ℕ) (xs ys : List Rule) {A B : Type 0} → Exactly (BreaksAt i xs) A → Exactly (BreaksAt i ys) B → Exactly (BreaksAt i (xs ++ ys)) (A ⊎ B)
+breaks-append i xs ys f g =
+    (breaks-either i xs ys (λ x. inl (f .0 x)) (λ y. inr (g .0 y)), ⊎-elim (λ a. breaks-left i xs ys (f .1 a)) (λ b. breaks-right i xs ys (g .1 b)))
+
+-- of n bytes from byte k on, each of which is zero: one that isn't
+abbrev NotZero : ℕ → ℕ → List ℕ → ℕ → Type 0
+NotZero k n p i = (k ≤ i) × ((i < k + n) × (byteAt p i ≡ 0 → ⊥))
+
+zeros-to : (i k n : ℕ) (p : List ℕ) → BreaksAt i (zeroRules k (take n (drop k p))) → NotZero k n p i
+zeros-to i k zero p b = absurd b
+zeros-to i k (suc n) p b =
+    cases (ltb k (length p))
+    (λ t.
+    let more : BreaksAt i (zeroRules k (byteAt p k ∷ take n (drop (suc k) p))) = rw (drop-cons p k 0 (ltb-true k (length p) t)) at b in
+    ⊎-elim (λ h. (le-of-eq (h .0), (omega (arith, h .0), rw (h .0) at (eqb-false (byteAt p k) 0 (h .1)))))
+    (λ h. let z = zeros-to i (suc k) n p h in (omega (arith, z .0), (omega (arith, z .1 .0), z .1 .1))) more)
+    (λ f. let none : drop k p ≡ [] = drop-of-length-le p {i = k} (ltb-false k (length p) f) in absurd (rw none at b))
+
+zeros-from : (i k n : ℕ) (p : List ℕ) → NotZero k n p i → BreaksAt i (zeroRules k (take n (drop k p)))
+zeros-from i k zero p z = absurd (omega (arith, z .0, z .1 .0))
+zeros-from i k (suc n) p z =
+    cases (ltb k (length p))
+    (λ t.
+    rw (drop-cons p k 0 (ltb-true k (length p) t))
+    (cases (eqb k i) (λ e. let same = eqb-true k i e in inl (same, rw (← same) at (ne-eqb (byteAt p i) 0 (z .1 .1))))
+    (λ e. let other = eqb-false k i e in inr (zeros-from i (suc k) n p (omega (arith, z .0), (omega (arith, z .1 .0), z .1 .1))))))
+    (λ f. absurd (z .1 .1 (List·getD-eq-default p 0 (omega (arith, ltb-false k (length p) f, z .0)))))
+
+pub zeros-due : (i k n : ℕ) (p : List ℕ) → Exactly (BreaksAt i (zeroRules k (take n (drop k p)))) ((k ≤ i) × ((i < k + n) × (byteAt p i ≡ 0 → ⊥)))
+zeros-due i k n p = (zeros-to i k n p, zeros-from i k n p)

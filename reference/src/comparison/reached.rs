@@ -130,7 +130,7 @@ impl fmt::Display for Item {
     }
 }
 
-/// The answers each kind of call can give, by 01, 02 and design.md. 13 stands for the unknown kinds.
+/// The answers each kind of call can give, by 01, 02 and docs/CONSOLE.md. 13 stands for the unknown kinds.
 pub const KIND_ANSWERS: [(u8, &[u8]); 16] = [
     (kind::POWER_ON, &[0]),
     (kind::IN, &[0, 1, 2, 3, 4, 5, 6]),

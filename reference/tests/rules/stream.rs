@@ -1,4 +1,4 @@
-//! The stream of design.md.
+//! The stream of docs/CONSOLE.md.
 
 use crate::given::k;
 use reference::comparison::record_builder::mixed;

@@ -20,23 +20,25 @@ use Rattle.page.specs.Rules.{ceemWrong, keyLength}
 abbrev pub reserved : List ℕ → List Rule
 reserved p = zeroRules reservedFrom (reservedBytes p)
 
+-- "algorithm 1; both formats 0"
+abbrev pub plainValues : List ℕ → List Rule
+plainValues p = rule 8 (eqb (indexOf p) algorithm) ∷ rule 9 (eqb (byteAt p 9) 0) ∷ rule 10 (eqb (byteAt p 10) 0) ∷ []
+
 -- 01: "With LOCAL or ALL and SDK 0: bits 4–1 of byte 4 and bytes 11–17 zero", then
 abbrev pub setValues : List ℕ → List Rule
 setValues p =
     -- "encryption mode 0 DISABLE, 1 EXTERNAL, 2 ENCRYPT; decryption mode 0 DISABLE, 1 RAW, 2 DECRYPT, 3 MIXED; algorithm 1; both formats 0"
     rule 6 (leb (encryptionOf p) encrypt)
     ∷ rule 7 (leb (decryptionOf p) mixed)
-    ∷ rule 8 (eqb (indexOf p) algorithm)
-    ∷ rule 9 (eqb (byteAt p 9) 0)
-    ∷ rule 10 (eqb (byteAt p 10) 0)
+    ∷ (plainValues p
     -- "Key length is 32 where encryption is 2 or decryption is 2 or 3, otherwise 0"; 02: "A whole field in fault points to its first byte"
-    ∷ rule 18 (eqb (keyLengthOf p) (keyLength (encryptionOf p) (decryptionOf p)))
+    ++ rule 18 (eqb (keyLengthOf p) (keyLength (encryptionOf p) (decryptionOf p)))
     -- "a key that runs past the page's end is a fault"; 02: "a key cut by the page's end to 18"
     ∷ rule 18 (leb (keyEnd p) (length p))
     -- "RDMC 01b is wrong under ENCRYPT"; 02: "request 2's CEEM to 5"
     ∷ rule 5 (not (encrypts (encryptionOf p) && eqb (rdmcOf p) 1))
     ∷ rule 5 (not (ceemWrong (ceemOf p) (decryptionOf p)))
-    ∷ []
+    ∷ [])
 
 unfoldable pub everySetRule : List ℕ → List Rule
 everySetRule p = rule 4 (eqb (reservedOf p) 0) ∷ (reserved p ++ setValues p)
@@ -51,13 +53,7 @@ everyListRule p =
 -- 01: "With SDK 1 (LOCAL or ALL) .. reserved parts, algorithm and formats as above; key length 32", the key as above; "no descriptors"
 abbrev pub supplementalValues : List ℕ → List Rule
 supplementalValues p =
-    rule 8 (eqb (indexOf p) algorithm)
-    ∷ rule 9 (eqb (byteAt p 9) 0)
-    ∷ rule 10 (eqb (byteAt p 10) 0)
-    ∷ rule 18 (eqb (keyLengthOf p) keySize)
-    ∷ rule 18 (leb (keyEnd p) (length p))
-    ∷ rule keyedSize (leb (length p) keyedSize)
-    ∷ []
+    plainValues p ++ rule 18 (eqb (keyLengthOf p) keySize) ∷ rule 18 (leb (keyEnd p) (length p)) ∷ rule keyedSize (leb (length p) keyedSize) ∷ []
 
 -- "The nexus's scope equals SCOPE; byte 7 equals that set's mode and is 2 or 3"; 02: "A mismatched supplemental scope points to 4 and mode to 7"
 unfoldable pub everySupplementalRule : List ℕ → ℕ → ℕ → List Rule
