@@ -3,7 +3,7 @@
 -- Assumes nothing.
 use mathlib.Core.Path.{_≡_, refl, sym, ap, subst, _∙_}
 use mathlib.Core.Bool.{Bool, true, false, not}
-use mathlib.Core.Logic.{inl, inr, ⊎-elim}
+use mathlib.Core.Logic.{_⊎_, inl, inr, ⊎-elim}
 use mathlib.Core.List.{List, [], _∷_, _++_}
 use Prim.Native.Nat.{ℕ}
 use lib.Dec.{leb, eqb}
@@ -14,7 +14,7 @@ use Rattle.answer.specs.Answers.{numberOf, isDone, isFieldWrong}
 use Rattle.answer.specs.declared.Answer.{Answer}
 use Rattle.answer.specs.declared.Answer.the-variants.{Done, NotWellFormed, NexusAbove, ChangedByAnotherNexus, ChangedByVendorEvent, ProtocolNotSupported, PageNotSupported, FieldWrong, FifthSupplementalKey, NoPlaceForLocal, KeyInstanceChanged, ParametersNotUsable, PlaceAbove}
 use Rattle.answer.proofs.Numbers.{done-is}
-use Rattle.pointing.specs.Judged.{Judged}
+use Rattle.pointing.specs.Judged.{Taken, Judged}
 use Rattle.page.proofs.Pointing.{page-judged}
 use Rattle.device.specs.Record.{State, nexusAt}
 use Rattle.device.specs.Selecting.{selectedSet}
@@ -27,8 +27,9 @@ use Rattle.drive.specs.declared.Command.{Command}
 use Rattle.drive.specs.Calls.{Call, powerUp, securityIn, securityOut, write, read, unitReset, happens}
 use Rattle.drive.specs.Checks.{answerIf, firstOf, check1, pageChecked, check10, instanceChanged, notUsable, heardOf, commandedOf, eventCheck, checks, answer}
 use Rattle.drive.specs.RestoringClaims.{readNumber}
+use Rattle.drive.specs.Sending.{Reached}
 use Rattle.drive.specs.Pointing.{rulesOf, PageAsked, sendsPage}
-use Rattle.drive.proofs.Checks.{first-stops, first-passes, front-done, first-fault, first-next, last-is, first-told}
+use Rattle.drive.proofs.Checks.{first-stops, first-passes, first-fault, first-next, last-is, first-told}
 use Rattle.drive.proofs.Restoring.{read-numbers}
 use Rattle.drive.proofs.Sending.{page-decides}
 
@@ -85,34 +86,48 @@ module _ (s : State) (command : Command) (page : List ℕ) where
   unfolding answer checks
   answered = refl
 
-  -- an answer that is neither one of checks 1 to 6 nor of check 10 is its own check's
-  own-is : (x : Answer) (P : Answer → Type 0) → (P x → ⊥) → P (firstOf front) → P last → answer s (securityOut command page) ≡ x → own ≡ x
-  own-is x P n first after e =
+  -- where checks 1 to 6 aren't its, an answer is its own check's, or comes after that has taken the page
+  own-is : (x : Answer) → (firstOf front ≡ x → isDone (firstOf front) ≡ true) → answer s (securityOut command page) ≡ x → (own ≡ x) ⊎ ((own ≡ Done) × (last ≡ x))
+  own-is x n e =
       let told = sym answered ∙ e in
       cases (isDone (firstOf front))
       (λ t.
       let rest = sym (first-passes front (own ∷ last ∷ []) t) ∙ told in
-      cases (isDone own) (λ u. absurd (n (subst P (sym (last-is last) ∙ sym (first-next own (last ∷ []) u) ∙ rest) after))) (λ u. sym (first-fault own (last ∷ []) u) ∙ rest))
-      (λ f. absurd (n (subst P (sym (first-stops front (own ∷ last ∷ []) f) ∙ told) first)))
+      cases (isDone own) (λ u. inr (done-is own u, sym (last-is last) ∙ sym (first-next own (last ∷ []) u) ∙ rest)) (λ u. inl (sym (first-fault own (last ∷ []) u) ∙ rest)))
+      (λ f. let first = sym (first-stops front (own ∷ last ∷ []) f) ∙ told in clash (n first) f)
 
-  -- so 8 and 9 are
+  -- none of checks 1 to 6 has an answer's number
+  not-front : (k : ℕ) (x : Answer) → Another k (firstOf front) → eqb (numberOf x) k ≡ true → firstOf front ≡ x → isDone (firstOf front) ≡ true
+  not-front k x f t e = clash t (ap (λ (a : Answer). eqb (numberOf a) k) (sym e) ∙ f)
+
+  -- 8 is its own check's
   own-eight : (b : ℕ) → answer s (securityOut command page) ≡ FieldWrong b → own ≡ FieldWrong b
-  own-eight b =
-      own-is (FieldWrong b) (Another 8) (λ z. clash refl z) (told-command (Another 8) refl refl refl refl refl refl refl s command supported) (told-if (Another 8) refl full NoPlaceForLocal refl)
+  own-eight b e =
+      ⊎-elim (λ o. o) (λ o. clash (ap (λ (a : Answer). eqb (numberOf a) 8) (o .1)) (told-if (Another 8) refl full NoPlaceForLocal refl))
+      (own-is (FieldWrong b) (not-front 8 (FieldWrong b) (told-command (Another 8) refl refl refl refl refl refl refl s command supported) refl) e)
 
-  own-nine : answer s (securityOut command page) ≡ FifthSupplementalKey → own ≡ FifthSupplementalKey
-  own-nine =
-      own-is FifthSupplementalKey (Another 9) (λ z. clash refl z) (told-command (Another 9) refl refl refl refl refl refl refl s command supported) (told-if (Another 9) refl full NoPlaceForLocal refl)
+  -- and a page that is taken, or has no room, is taken by it
+  own-taken : Taken (answer s (securityOut command page)) → Taken own
+  own-taken =
+      ⊎-elim (λ e. ⊎-elim inl (λ o. inl (o .0)) (own-is Done (λ f. ap isDone f) e))
+      (⊎-elim
+      (λ e. ⊎-elim (λ o. inr (inl o)) (λ o. inl (o .0))
+      (own-is FifthSupplementalKey (not-front 9 FifthSupplementalKey (told-command (Another 9) refl refl refl refl refl refl refl s command supported) refl) e))
+      (λ e. ⊎-elim (λ o. inr (inr o)) (λ o. inl (o .0))
+      (own-is NoPlaceForLocal (not-front 10 NoPlaceForLocal (told-command (Another 10) refl refl refl refl refl refl refl s command supported) refl) e)))
 
-  -- and a page that is taken is taken by it
-  own-done : answer s (securityOut command page) ≡ Done → own ≡ Done
-  own-done e =
-      let told : isDone (firstOf (front ++ own ∷ last ∷ [])) ≡ true = ap isDone (sym answered ∙ e) in
-      let passed = ap isDone (sym (first-passes front (own ∷ last ∷ []) (front-done front (own ∷ last ∷ []) told))) ∙ told in
-      done-is own (ap isDone (sym (last-is own)) ∙ front-done (own ∷ []) (last ∷ []) passed)
+  -- one that its own check takes is taken, or has no room
+  taken-own : Reached s command → Taken own → Taken (answer s (securityOut command page))
+  taken-own reached t =
+      let decides = page-decides s command reached page in
+      ⊎-elim
+      (λ e.
+      let is : answer s (securityOut command page) ≡ last = decides ∙ (first-next own (last ∷ []) (ap isDone e) ∙ last-is last) in
+      cases full (λ u. inr (inr (is ∙ ap (λ (f : Bool). answerIf f NoPlaceForLocal) u))) (λ u. inl (is ∙ ap (λ (f : Bool). answerIf f NoPlaceForLocal) u)))
+      (⊎-elim (λ e. inr (inl (decides ∙ rw e))) (λ e. inr (inr (decides ∙ rw e)))) t
 
-  -- Answer 8 to a page that is sent points to the lowest byte at which a rule of 01 breaks, and is given wherever one does and no earlier answer is due;
-  -- where it is answered 0 or 9, none breaks.
+  -- Answer 8 to a page that is sent points to the lowest byte at which a rule of 01 breaks; where it is answered 0, 9 or 10, none breaks. And where no
+  -- earlier answer is due: 8 is given wherever a rule breaks, and the page is taken, but for want of room, wherever none does.
   pub page-points : Judged (PageAsked s command page) (rulesOf s (command .nexus) page) page (answer s (securityOut command page))
   page-points =
       let j = page-judged page (nexusAt s (command .nexus) .scope) (selectedSet s (command .nexus) .fields .decryption) (selectedSet s (command .nexus) .supplemental .count) in
@@ -121,7 +136,8 @@ module _ (s : State) (command : Command) (page : List ℕ) where
         within = λ b e. j .within b (own-eight b e);
         fits = λ b e. j .fits b (own-eight b e);
         told = λ b asked l. let e = j .told b (asked .1) l in page-decides s command (asked .0) page ∙ rw e;
-        none = λ t i x. j .none (⊎-elim (λ e. inl (own-done e)) (λ e. inr (own-nine e)) t) i x;
+        none = λ t i x. j .none (own-taken t) i x;
+        right = λ asked h. taken-own (asked .0) (j .right (asked .1) h);
       }
 
 -- ---- other calls

@@ -1,9 +1,8 @@
 -- Document 02, request 6, through the calls: the rules of a page that is sent, and when they are asked (proofs/Pointing).
 use Prim.Native.Nat.{ℕ}
-use mathlib.Core.Path.{_≡_}
 use mathlib.Core.Bool.{Bool, true, false}
 use mathlib.Core.List.{List}
-use Rattle.wire.specs.Rules.{Rule, lengthWrong}
+use Rattle.wire.specs.Rules.{Rule, RightLength}
 use Rattle.page.specs.Fields.{keyFrom}
 use Rattle.page.specs.Pointing.{everyRule}
 use Rattle.device.specs.Record.{State, nexusAt}
@@ -18,7 +17,7 @@ rulesOf s n page = everyRule page (nexusAt s n .scope) (selectedSet s n .fields 
 
 -- it is asked about where none of answers 1 to 7 is due
 abbrev pub PageAsked : State → Command → List ℕ → Type 0
-PageAsked s command page = Reached s command × (lengthWrong keyFrom page ≡ false)
+PageAsked s command page = Reached s command × RightLength keyFrom page
 
 -- a call that sends a page
 abbrev pub sendsPage : Call → Bool

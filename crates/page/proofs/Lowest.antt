@@ -2,7 +2,7 @@
 -- Assumes nothing.
 use mathlib.Core.Path.{_≡_, refl, sym, _∙_}
 use mathlib.Core.Bool.{true, false}
-use mathlib.Core.Logic.{_⊎_, inl, inr}
+use mathlib.Core.Logic.{inl, inr}
 use mathlib.Core.List.{List, [], _∷_, _++_}
 use Prim.Native.Nat.{ℕ, _+_, _^_, _<_, _≤_}
 use native.Mathlib.Nat.{le-refl, add-zero}
@@ -17,7 +17,7 @@ use Rattle.wire.proofs.Rules.{AllHold, Under, kept, none, low, high, Sorted, so
 use Rattle.wire.proofs.Lowest.{right-length, breach-under, lowest-of}
 use Rattle.answer.specs.declared.Answer.{Answer}
 use Rattle.answer.specs.declared.Answer.the-variants.{Done, PageLengthWrong, FieldWrong, FifthSupplementalKey}
-use Rattle.pointing.specs.Judged.{Judged}
+use Rattle.pointing.specs.Judged.{Taken, Judged}
 use Rattle.pointing.proofs.Judging.{judged-short, judged-wrong, judged-right}
 use Rattle.kad.specs.Kad.{noKads}
 use Rattle.kad.specs.Reading.{listed}
@@ -193,7 +193,7 @@ module _ (asked : Type 0) (p : List ℕ) (ys : List Rule) (sorted : Sorted 4 ys)
       judged-wrong asked (openRules p ++ ys) p _ i (lowest-of (openRules p ++ ys) (length p) i (open-sorted p ys sorted) (e ∙ sym first) l) l small refl
 
   -- and where the others hold, the page is done
-  others-right : (a : Answer) → (a ≡ Done) ⊎ (a ≡ FifthSupplementalKey) → AllHold ys → Judged asked (openRules p ++ ys) p a
+  others-right : (a : Answer) → Taken a → AllHold ys → Judged asked (openRules p ++ ys) p a
   others-right a t h = judged-right asked (openRules p ++ ys) p a (hold-append (openRules p) ys opens h) t
 
 module _ (asked : Type 0) (p : List ℕ) (long : keyFrom ≤ length p) (opens : AllHold (openRules p)) where
@@ -210,7 +210,7 @@ module _ (asked : Type 0) (p : List ℕ) (long : keyFrom ≤ length p) (opens : 
       rw t (others-wrong asked p rules sorted opens fault refl lt (supplemental-fits p scope mode fault refl lt)))
       (λ t.
       let all = supplemental-all p scope mode (supplemental-hold p scope mode long (ltb-false fault (length p) t)) in
-      cases (leb supplementalMost count) (λ u. rw (t, u) (others-right asked p rules sorted opens FifthSupplementalKey (inr refl) all))
+      cases (leb supplementalMost count) (λ u. rw (t, u) (others-right asked p rules sorted opens FifthSupplementalKey (inr (inl refl)) all))
       (λ u. rw (t, u) (others-right asked p rules sorted opens Done (inl refl) all)))
 
   -- a page with SDK 0

@@ -1,13 +1,11 @@
 -- Document 02, request 6: the byte of answer 8 is the lowest at which a rule of 01 breaks, whatever order the rules are tested in.
 -- Assumes nothing.
-use mathlib.Core.Path.{_≡_}
-use mathlib.Core.Bool.{false}
 use mathlib.Core.List.{List, [], _++_}
 use Prim.Native.Nat.{ℕ}
 use lib.ListN.{take, drop}
 use Rattle.arrays.proofs.Base.{cases}
-use Rattle.wire.specs.Rules.{lengthWrong}
-use Rattle.wire.proofs.Lowest.{Same, same-self, same-then, same-both, same-after, same-swap, same-move}
+use Rattle.wire.specs.Rules.{RightLength}
+use Rattle.wire.proofs.Lowest.{length-due, Same, same-self, same-then, same-both, same-after, same-swap, same-move}
 use Rattle.parameters.specs.Fields.{keySize}
 use Rattle.pointing.specs.Judged.{Judged}
 use Rattle.pointing.proofs.Judging.{judged-same}
@@ -60,7 +58,7 @@ rules-same : (p : List ℕ) (scope mode : ℕ) → Same (pageRules p scope mode)
 unfolding openRules
 rules-same p scope mode = same-after (openRules p) (innerRules p scope mode) (everyScopedRule p scope mode) (scoped-same p scope mode)
 
--- If the answer is 8 with byte b, a rule of 01 breaks at b, which is a byte of the page, and none at a lower byte; if it is 0 or 9, none breaks;
--- and unless the length is wrong, 8 is answered wherever a rule breaks.
-pub page-judged : (p : List ℕ) (scope mode count : ℕ) → Judged (lengthWrong keyFrom p ≡ false) (everyRule p scope mode) p (checked p scope mode count .answer)
-page-judged p scope mode count = judged-same (rules-same p scope mode) (page-verdict _ p scope mode count (λ f. f))
+-- If the answer is 8 with byte b, a rule of 01 breaks at b, which is a byte of the page, and none at a lower byte; if it is 0 or 9, none breaks.
+-- And of a page of the right length: 8 is answered wherever a rule breaks, and it is taken, but for want of room, wherever none does.
+pub page-judged : (p : List ℕ) (scope mode count : ℕ) → Judged (RightLength keyFrom p) (everyRule p scope mode) p (checked p scope mode count .answer)
+page-judged p scope mode count = judged-same (rules-same p scope mode) (page-verdict _ p scope mode count (length-due keyFrom p .1))

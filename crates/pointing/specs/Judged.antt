@@ -7,7 +7,11 @@ use mathlib.Core.List.{List}
 use lib.ListN.{length}
 use Rattle.wire.specs.Rules.{Rule, BreaksAt, Lowest}
 use Rattle.answer.specs.declared.Answer.{Answer}
-use Rattle.answer.specs.declared.Answer.the-variants.{Done, FieldWrong, FifthSupplementalKey}
+use Rattle.answer.specs.declared.Answer.the-variants.{Done, FieldWrong, FifthSupplementalKey, NoPlaceForLocal}
+
+-- nothing is wrong with the page: it is taken, or there is no room for its key or its set
+abbrev pub Taken : Answer → Type 0
+Taken a = (a ≡ Done) ⊎ ((a ≡ FifthSupplementalKey) ⊎ (a ≡ NoPlaceForLocal))
 
 pub record Judged (asked : Type 0) (rules : List Rule) (p : List ℕ) (a : Answer) : Type 0 where
   -- answer 8 with byte b: a rule breaks at b, and none at a lower byte
@@ -18,5 +22,7 @@ pub record Judged (asked : Type 0) (rules : List Rule) (p : List ℕ) (a : Answe
   pub fits : (b : ℕ) → a ≡ FieldWrong b → b < 2 ^ 16
   -- and so a page is answered, where it is asked about, wherever a rule breaks
   pub told : (b : ℕ) → asked → Lowest b rules → a ≡ FieldWrong b
-  -- answer 0, and answer 9: none breaks
-  pub none : (a ≡ Done) ⊎ (a ≡ FifthSupplementalKey) → (i : ℕ) → BreaksAt i rules → ⊥
+  -- answer 0, and answers 9 and 10: none breaks
+  pub none : Taken a → (i : ℕ) → BreaksAt i rules → ⊥
+  -- and so a page is answered, where it is asked about, wherever none does
+  pub right : asked → ((i : ℕ) → BreaksAt i rules → ⊥) → Taken a

@@ -14,11 +14,12 @@ pub use Rattle.text.proofs.Worked.{numbers-computed}
 -- Key-associated data written and read back are the same; a list that is accepted, read and written again, has the same bytes.
 pub use Rattle.kad.proofs.RoundTrip.{read-of-written as kad-read-of-written, written-of-read as kad-written-of-read}
 -- Document 02, request 6: where the page check, or the status reader, answers 8 with a byte, a rule of 01 breaks there and none at a lower byte, over
--- one list of the rules in 01's order; where it answers 0, or 9, none breaks; the byte is one of the page's; and so 8 is answered wherever a
--- rule breaks and the length is right.
+-- one list of the rules in 01's order; where it answers 0, or 9, none breaks; the byte is one of the page's. And of a page of the right length: 8 is
+-- answered wherever a rule breaks, and it is taken, but for want of room, wherever none does.
 pub use Rattle.page.proofs.Pointing.{page-judged}
 pub use Rattle.status.proofs.Pointing.{status-judged}
--- Those rules in plain relations: they break at a byte exactly if the page is wrong there.
+-- The right length, and those rules, in plain relations: they break at a byte exactly if the page is wrong there.
+pub use Rattle.wire.proofs.Lowest.{length-due}
 pub use Rattle.kad.proofs.Pointing.{descriptor-due, list-faults}
 pub use Rattle.page.proofs.Faults.{page-faults}
 pub use Rattle.status.proofs.Faults.{status-faults}

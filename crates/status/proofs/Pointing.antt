@@ -1,8 +1,7 @@
 -- Document 02, request 6, of the status reader: the byte of answer 8 is the lowest at which a rule of 01 breaks, whatever order the rules are
 -- tested in.
 -- Assumes nothing.
-use mathlib.Core.Path.{_≡_, refl}
-use mathlib.Core.Bool.{false}
+use mathlib.Core.Path.{refl}
 use mathlib.Core.Logic.{inl, ⊎-elim}
 use mathlib.Core.List.{List, _++_}
 use Prim.Native.Nat.{ℕ}
@@ -10,9 +9,9 @@ use native.Mathlib.Nat.{le-refl}
 use native.Mathlib.Omega.{arith}
 use lib.ListN.{length, take, drop}
 use Rattle.arrays.proofs.Base.{clash}
-use Rattle.wire.specs.Rules.{lengthWrong, breach}
+use Rattle.wire.specs.Rules.{RightLength, breach}
 use Rattle.wire.proofs.Rules.{AllHold, Sorted, sorted-append, zeros-sorted, hold-append}
-use Rattle.wire.proofs.Lowest.{lowest-of, Same, same-self, same-then, same-both, same-after, same-swap, same-move}
+use Rattle.wire.proofs.Lowest.{length-due, lowest-of, Same, same-self, same-then, same-both, same-after, same-swap, same-move}
 use Rattle.kad.specs.Kad.{noKads}
 use Rattle.kad.specs.declared.Seen.the-variants.{Nothing}
 use Rattle.kad.proofs.Lowest.{list-sorted, list-hold}
@@ -77,15 +76,15 @@ all-hold p a =
     (list-hold (length rest) descriptorsFrom rest Nothing noKads (le-refl (length rest)) (omega (arith, a .list)))
 
 -- over the rules in the order of their bytes
-status-verdict : (p : List ℕ) → Judged (lengthWrong descriptorsFrom p ≡ false) (statusRules p) p (readStatus p .answer)
+status-verdict : (p : List ℕ) → Judged (RightLength descriptorsFrom p) (statusRules p) p (readStatus p .answer)
 status-verdict p =
     let fault = breach (statusRules p) (length p) in
-    ⊎-elim (λ e. rw (e .1) (judged-short _ (statusRules p) p _ (λ f. clash (e .0) f) refl))
+    ⊎-elim (λ e. rw (e .1) (judged-short _ (statusRules p) p _ (λ h. clash (e .0) (length-due descriptorsFrom p .1 h)) refl))
     (⊎-elim (λ b. rw (b .is) (judged-wrong _ (statusRules p) p _ fault (lowest-of (statusRules p) (length p) fault (status-sorted p) refl (b .before)) (b .before) (b .small) refl))
     (λ a. rw (a .is) (judged-right _ (statusRules p) p _ (all-hold p a) (inl refl))))
     (ways p)
 
--- If the answer is 8 with byte b, a rule of 01 breaks at b, which is a byte of the page, and none at a lower byte; if it is 0, none breaks; and
--- unless the length is wrong, 8 is answered wherever a rule breaks.
-pub status-judged : (p : List ℕ) → Judged (lengthWrong descriptorsFrom p ≡ false) (everyStatusRule p) p (readStatus p .answer)
+-- If the answer is 8 with byte b, a rule of 01 breaks at b, which is a byte of the page, and none at a lower byte; if it is 0, none breaks. And of
+-- a page of the right length: 8 is answered wherever a rule breaks, and it is taken wherever none does.
+pub status-judged : (p : List ℕ) → Judged (RightLength descriptorsFrom p) (everyStatusRule p) p (readStatus p .answer)
 status-judged p = judged-same (rules-same p) (status-verdict p)

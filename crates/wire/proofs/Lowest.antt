@@ -1,30 +1,34 @@
 -- What the first breach tells of all rules of a page: those before it hold, and where they stand in the order of their bytes it is the lowest.
 -- Assumes nothing.
-use mathlib.Core.Path.{_≡_, sym}
+use mathlib.Core.Path.{_≡_, refl, sym}
 use mathlib.Core.Bool.{Bool, true, false, not}
 use mathlib.Core.Logic.{_⊎_, inl, inr, ⊎-elim}
 use mathlib.Core.List.{List, [], _∷_, _++_}
 use Prim.Native.Nat.{ℕ, zero, suc, _+_, _<_, _≤_}
 use native.Mathlib.Nat.{le-refl, le-of-eq, le-antisymm, le-of-lt, not-le-of-lt, zero-add}
 use native.Mathlib.Omega.{arith}
-use borrow.Author.Tests.{eqb-true, eqb-false, ltb-true, ltb-false, ne-eqb, not-false}
+use borrow.Author.Tests.{eqb-true, eqb-false, ltb-true, ltb-false, le-ltb, eq-eqb, ne-eqb, not-false}
 use lib.Dec.{ltb, eqb}
 use lib.ListN.{length, take, drop, drop-of-length-le, List·getD-eq-default}
 use lib.Seq.{drop-cons}
 use Rattle.arrays.specs.Base.{Exactly}
 use Rattle.arrays.proofs.Base.{cases, clash, exactly-and, or-left-false, or-right-false, if-elim}
 use Rattle.wire.specs.Numbers.{byteAt, wordAt}
-use Rattle.wire.specs.Rules.{lengthWrong, Rule, breach, BreaksAt, Lowest, zeroRules}
+use Rattle.wire.specs.Rules.{lengthWrong, RightLength, Rule, breach, BreaksAt, Lowest, zeroRules}
 use Rattle.wire.proofs.Rules.{AllHold, Under, Sorted, lowest, breaks, zeros-under}
 
 -- ---- the length
 
 -- a page whose length isn't wrong has its least bytes, and as many as it says
-pub right-length : (least : ℕ) (p : List ℕ) → lengthWrong least p ≡ false → (least ≤ length p) × (wordAt p 2 + 4 ≡ length p)
+pub right-length : (least : ℕ) (p : List ℕ) → lengthWrong least p ≡ false → RightLength least p
 right-length least p e =
     let short = ltb (length p) least in
     let other = not (eqb (wordAt p 2 + 4) (length p)) in
     (ltb-false _ _ (or-left-false short other e), eqb-true _ _ (not-false _ (or-right-false short other e)))
+
+-- and one that has them isn't of a wrong length
+pub length-due : (least : ℕ) (p : List ℕ) → Exactly (lengthWrong least p ≡ false) (RightLength least p)
+length-due least p = (right-length least p, λ h. rw (le-ltb (length p) least (h .0), eq-eqb _ _ (h .1)) refl)
 
 -- ---- where the first breach lies
 

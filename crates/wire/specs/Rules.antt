@@ -13,6 +13,10 @@ use Rattle.wire.specs.Numbers.{wordAt}
 abbrev pub lengthWrong : ℕ → List ℕ → Bool
 lengthWrong least p = ltb (length p) least || not (eqb (wordAt p 2 + 4) (length p))
 
+-- the same in plain relations: it has its least bytes, and as many as it says
+abbrev pub RightLength : ℕ → List ℕ → Type 0
+RightLength least p = (least ≤ length p) × (wordAt p 2 + 4 ≡ length p)
+
 -- a rule: the byte that a breach of it points to, and whether it holds
 pub record Rule : Type 0 where
   pub at : ℕ
