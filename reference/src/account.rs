@@ -83,10 +83,14 @@ pub enum Rule {
     ReadEncryptedOtherwise,
     ReadPlainUnderDecrypt,
     ReadOpenedByNoKey,
+    BitMovesToLocalPlace,
+    BitMovesToPlaceZero,
+    ServesNexuses,
+    ServesNobody,
 }
 
 impl Rule {
-    pub const EVERY: [Rule; 72] = [
+    pub const EVERY: [Rule; 76] = [
         Rule::NexusAbove15,
         Rule::PlaceAbove4,
         Rule::PendingAnotherNexus,
@@ -159,6 +163,10 @@ impl Rule {
         Rule::ReadEncryptedOtherwise,
         Rule::ReadPlainUnderDecrypt,
         Rule::ReadOpenedByNoKey,
+        Rule::BitMovesToLocalPlace,
+        Rule::BitMovesToPlaceZero,
+        Rule::ServesNexuses,
+        Rule::ServesNobody,
     ];
 }
 
@@ -232,6 +240,11 @@ impl Account {
     /// Notes a rule about a place.
     pub fn note_place(&mut self, rule: Rule, place: usize) {
         self.steps.push(Step { rule, place: Some(place), nexus: None, number: None });
+    }
+
+    /// Notes a rule about a nexus and a place.
+    pub fn note_nexus_at(&mut self, rule: Rule, nexus: usize, place: usize) {
+        self.steps.push(Step { rule, place: Some(place), nexus: Some(nexus), number: None });
     }
 
     /// Notes a rule about a place and a number.

@@ -4,7 +4,7 @@ use crate::account::{Account, Rule};
 use crate::answer::Refused;
 use crate::codes::PROTOCOL;
 use crate::record::Record;
-use crate::sizes::NEXUSES;
+use crate::sizes::{NEXUSES, PLACES};
 use crate::well_formed::broken_clauses;
 
 /// A device record under the calls of 01.
@@ -15,7 +15,7 @@ pub struct Controller {
 }
 
 impl Controller {
-    /// 01: "Power-on takes no record, answers 0 and gives all zeros."
+    /// 01: "Power-on takes no record, answers 0 and gives all zeros", but for place 0's word (02, request 7).
     pub fn power_on() -> Self {
         Controller::with(Record::power_on())
     }
@@ -72,5 +72,15 @@ impl Controller {
         self.record.nexuses[nexus].registered = true;
         self.account.note_nexus(if already { Rule::RegisteredAlready } else { Rule::Registers }, nexus);
         Ok(())
+    }
+
+    /// Check 13: "place argument above 4".
+    pub(crate) fn check_place(&mut self, place: u16) -> Result<usize, Refused> {
+        let place = usize::from(place);
+        if place >= PLACES {
+            self.account.note(Rule::PlaceAbove4);
+            return Err(Refused::PlaceAbove4);
+        }
+        Ok(place)
     }
 }

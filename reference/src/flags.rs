@@ -1,5 +1,6 @@
 //! 01: "After a page or event, each nexus that was registered before, isn't the acting one ..., and whose
-//! selected place or its number differs from before, gets a flag".
+//! selected place or its number differs from before, gets a flag". 02, request 7, gives them from the words, "with the same
+//! flags as before"; here they come from 01's sentence, and `cargo test` holds them against the words.
 
 use crate::account::Rule;
 use crate::controller::Controller;

@@ -1,6 +1,7 @@
 //! The device record of 01, "What the controller holds".
 
 use crate::codes::{decryption, encryption, scope};
+use crate::selection_words::AT_POWER_ON;
 use crate::sizes::{A_KAD_BYTES, KEY_BYTES, NEXUSES, PLACES, SUPPLEMENTAL_KEYS, U_KAD_BYTES};
 
 /// Key-associated data of 01: a length and as many bytes as the kind can have.
@@ -110,18 +111,25 @@ impl Nexus {
     };
 }
 
-/// The device record; 01: places, nexuses and "the running counter".
+/// The device record; 01: places, nexuses and "the running counter"; 02, request 7: "beside each place one word". Of a
+/// record that isn't well formed the words may be any.
 #[derive(Clone, PartialEq, Eq, Debug)]
 pub struct Record {
     pub counter: u32,
     pub places: [Set; PLACES],
     pub nexuses: [Nexus; NEXUSES],
+    pub selection_words: [u64; PLACES],
 }
 
 impl Record {
-    /// 01: "Power-on ... gives all zeros."
+    /// 01: "Power-on ... gives all zeros"; 02, request 7: but for place 0's word.
     pub const fn power_on() -> Self {
-        Record { counter: 0, places: [const { Set::empty(0) }; PLACES], nexuses: [Nexus::ZERO; NEXUSES] }
+        Record {
+            counter: 0,
+            places: [const { Set::empty(0) }; PLACES],
+            nexuses: [Nexus::ZERO; NEXUSES],
+            selection_words: AT_POWER_ON,
+        }
     }
 
     /// The used place of 1 to 4 that a LOCAL nexus owns (01: "A LOCAL nexus uses its own place").

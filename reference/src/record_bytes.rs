@@ -10,8 +10,12 @@ pub const PLACE_BYTES: usize =
     9 + 5 + KEY_BYTES + 1 + SUPPLEMENTAL_KEYS * KEY_BYTES + 1 + U_KAD_BYTES + 1 + A_KAD_BYTES;
 /// One nexus: scope, lock, two numbers, three marks.
 pub const NEXUS_BYTES: usize = 2 + 4 + 4 + 3;
-/// The whole record: 1,317 bytes.
-pub const RECORD_BYTES: usize = COUNTER_BYTES + PLACES * PLACE_BYTES + NEXUSES * NEXUS_BYTES;
+/// One place's selection word.
+pub const WORD_BYTES: usize = 8;
+/// Where the words start: after the counter, the places and the nexuses.
+pub const WORDS_START: usize = COUNTER_BYTES + PLACES * PLACE_BYTES + NEXUSES * NEXUS_BYTES;
+/// The whole record: 1,357 bytes.
+pub const RECORD_BYTES: usize = WORDS_START + PLACES * WORD_BYTES;
 
 /// Gives the record's bytes (docs/CONSOLE.md: 255, "give the device record").
 pub fn give(record: &Record) -> Vec<u8> {
@@ -22,6 +26,9 @@ pub fn give(record: &Record) -> Vec<u8> {
     }
     for nexus in &record.nexuses {
         give_nexus(nexus, &mut bytes);
+    }
+    for word in &record.selection_words {
+        bytes.extend(word.to_be_bytes());
     }
     bytes
 }
@@ -64,6 +71,9 @@ pub fn load(bytes: &[u8]) -> Option<Record> {
     }
     for nexus in &mut record.nexuses {
         *nexus = load_nexus(&mut reader)?;
+    }
+    for word in &mut record.selection_words {
+        *word = u64::from_be_bytes(reader.take());
     }
     Some(record)
 }
@@ -148,6 +158,9 @@ impl Reader<'_> {
     }
 }
 
+/// The name of a place's word among the fields.
+pub const SELECTION_WORD: &str = "selection word";
+
 /// The name of the field that holds a byte of the record, for reports.
 pub fn field_name(offset: usize) -> String {
     const PLACE_FIELDS: [(&str, usize); 18] = [
@@ -187,7 +200,11 @@ pub fn field_name(offset: usize) -> String {
         return format!("place {}, {}", offset / PLACE_BYTES, field_in(&PLACE_FIELDS, offset % PLACE_BYTES));
     }
     let offset = offset - PLACES * PLACE_BYTES;
-    format!("nexus {}, {}", offset / NEXUS_BYTES, field_in(&NEXUS_FIELDS, offset % NEXUS_BYTES))
+    if offset < NEXUSES * NEXUS_BYTES {
+        return format!("nexus {}, {}", offset / NEXUS_BYTES, field_in(&NEXUS_FIELDS, offset % NEXUS_BYTES));
+    }
+    let offset = offset - NEXUSES * NEXUS_BYTES;
+    format!("place {}, {SELECTION_WORD}", offset / WORD_BYTES)
 }
 
 /// The field of a list of names and sizes that covers an offset.

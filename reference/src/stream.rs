@@ -25,6 +25,7 @@ pub mod kind {
     pub const VENDOR_RELEASE: u8 = 10;
     pub const READ: u8 = 11;
     pub const BATCH: u8 = 12;
+    pub const SERVES: u8 = 13;
     pub const READ_STATUS: u8 = 253;
     pub const LOAD_RECORD: u8 = 254;
     pub const GIVE_RECORD: u8 = 255;
@@ -154,6 +155,12 @@ impl Reply {
         Some(Written { as_what, place: usize::from(place), index })
     }
 
+    /// The word of a place that is told, as `served` gives it; nothing where the reply says something else.
+    pub fn served(&self) -> Option<u64> {
+        let word = self.data[..].try_into().ok().filter(|_| self.number == 0);
+        word.map(u64::from_be_bytes)
+    }
+
     /// The reply's bytes.
     pub fn give(&self, bytes: &mut Vec<u8>) {
         bytes.push(self.number);
@@ -229,6 +236,7 @@ impl Drive {
                 controller.read(command.nexus, block_kind, key).map_or_else(Reply::refused, read_block)
             }
             kind::BATCH => self.batch(command),
+            kind::SERVES => controller.serves(command.argument).map_or_else(Reply::refused, served),
             kind::READ_STATUS => self.read_status(&command.data),
             kind::LOAD_RECORD => self.load_record(&command.data),
             kind::GIVE_RECORD => Reply::done(record_bytes::give(&controller.record)),
@@ -304,6 +312,11 @@ fn read_block(block: ReadBlock) -> Reply {
         ReadAs::Decrypted => 2,
     };
     Reply::done(vec![as_what, block.place as u8])
+}
+
+/// "Reply: answer 0 with M = 8: the place's word, big-endian".
+fn served(word: u64) -> Reply {
+    Reply::done(word.to_be_bytes().to_vec())
 }
 
 /// "253 done: nexus scope, set scope, encryption, decryption, index, number (4), CEEMS, RDMD, U-KAD length,

@@ -1,4 +1,5 @@
-//! 01: "A device record is well formed if ...", clause by clause.
+//! 01: "A device record is well formed if ...", clause by clause; and 02, request 7: "a record where they differ is not
+//! well formed".
 
 use crate::codes::{decryption, encryption, scope, ALGORITHM, LARGEST_CEEM};
 use crate::record::{Kad, Record, Set};
@@ -29,10 +30,11 @@ pub enum Clause {
     AllNexusHasPlaceZeroUsed,
     AllNexusOwnsPlaceZero,
     EmptyPlaceZero,
+    WordsAsTheScopesSay,
 }
 
 impl Clause {
-    pub const EVERY: [Clause; 22] = [
+    pub const EVERY: [Clause; 23] = [
         Clause::SetScopeInRange,
         Clause::EncryptionInRange,
         Clause::DecryptionInRange,
@@ -55,6 +57,7 @@ impl Clause {
         Clause::AllNexusHasPlaceZeroUsed,
         Clause::AllNexusOwnsPlaceZero,
         Clause::EmptyPlaceZero,
+        Clause::WordsAsTheScopesSay,
     ];
 
     /// Whether some record breaks this clause and no other. A set scope of 3 or more makes the place
@@ -80,6 +83,7 @@ pub fn broken_clauses(record: &Record) -> Vec<Clause> {
     scopes_of_places(record, &mut broken);
     local_ownership(record, &mut broken);
     all_ownership(record, &mut broken);
+    words(record, &mut broken);
     broken.sort();
     broken.dedup();
     broken
@@ -179,5 +183,12 @@ fn all_ownership(record: &Record, broken: &mut Vec<Clause>) {
             }
         }
         _ => broken.push(Clause::OneAllNexusAtMost),
+    }
+}
+
+/// 02, request 7: "a record where they differ is not well formed", every bit of a word included.
+fn words(record: &Record, broken: &mut Vec<Clause>) {
+    if record.selection_words != record.words_by_scopes() {
+        broken.push(Clause::WordsAsTheScopesSay);
     }
 }

@@ -12,6 +12,8 @@ mod wrong_batchers;
 mod wrong_faulty_bytes;
 #[path = "support/wrong_places.rs"]
 mod wrong_places;
+#[path = "support/wrong_words.rs"]
+mod wrong_words;
 
 use reference::codes::{ceem, decryption, encryption, scope};
 use reference::comparison::session;
@@ -24,6 +26,7 @@ use std::thread;
 use wrong_batchers::BATCH_FAULTS;
 use wrong_faulty_bytes::FAULTY_BYTE_FAULTS;
 use wrong_places::PLACE_FAULTS;
+use wrong_words::WORD_FAULTS;
 
 /// What a fault sees and spoils: the command, the record before it, the reply, and the record after it.
 struct Moment<'parts> {
@@ -169,6 +172,7 @@ fn highest_unlocked_place(moment: &mut Moment) {
     };
     if let Some(highest) = (place + 1..5).rev().find(unlocked) {
         moment.after.places.swap(place, highest);
+        moment.after.put_words_right();
     }
 }
 
@@ -426,7 +430,8 @@ fn held_set_not_well_formed(moment: &mut Moment) {
     let held = |set: &Set| {
         set.is_used() && set.ceem >= ceem::REPORTS_EXTERNAL && set.decryption == decryption::DISABLE
     };
-    let asks = matches!(moment.command.kind, kind::IN..=kind::READ) && moment.reply.number != 255;
+    let takes_record = matches!(moment.command.kind, kind::IN..=kind::READ | kind::SERVES);
+    let asks = takes_record && moment.reply.number != 255;
     if asks && moment.before.places.iter().any(held) {
         *moment.after = moment.before.clone();
         refuse(moment, 1, [0; 3]);
@@ -471,7 +476,7 @@ fn commands_in(report: &str) -> Option<usize> {
 /// The wrong drives that the directed sessions alone are to find.
 fn of_requests() -> impl Iterator<Item = &'static Fault> {
     let faults = READ_FAULTS.iter().chain(&CEEM_FAULTS).chain(&PLACE_FAULTS).chain(&BATCH_FAULTS);
-    faults.chain(&FAULTY_BYTE_FAULTS)
+    faults.chain(&FAULTY_BYTE_FAULTS).chain(&WORD_FAULTS)
 }
 
 /// Every test; the texts of those that failed.

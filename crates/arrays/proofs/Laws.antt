@@ -153,6 +153,16 @@ rest-of l k x xs e = rw add-one at (sym (drop-drop 1 k l)) ∙ ap (drop 1) e
 pub read-same : {A B : Type 0} (r : A → B) (l m : List A) (d : A) → map r l ≡ map r m → (i : ℕ) → r (getD l i d) ≡ r (getD m i d)
 read-same r l m d e i = sym (List·getD-map r l i d) ∙ ap (λ x. getD x i (r d)) e ∙ List·getD-map r m i d
 
+-- rewritings that agree at each index make the same
+module _ {A B : Type 0} (f g : ℕ → A → B) where
+  mapped-from : (k : ℕ) (xs : List A) → ((i : ℕ) (x : A) → i < length xs → f (k + i) x ≡ g (k + i) x) → mapFrom f k xs ≡ mapFrom g k xs
+  mapped-from k [] e = refl
+  mapped-from k (x ∷ xs) e =
+      ap₂ {C = List B} _∷_ (rw add-zero at (e zero x (omega arith))) (mapped-from (suc k) xs (λ i y h. rw (suc-add k i, ← add-suc k i) (e (suc i) y (suc-le-suc h))))
+
+  pub mapFrom-same : (xs : List A) → ((i : ℕ) (x : A) → i < length xs → f i x ≡ g i x) → mapFrom f 0 xs ≡ mapFrom g 0 xs
+  mapFrom-same xs e = mapped-from 0 xs (λ i x h. rw zero-add (e i x h))
+
 -- a rewriting that keeps each element
 pub mapFrom-kept : {A : Type 0} (f : ℕ → A → A) → ((i : ℕ) (x : A) → f i x ≡ x) → (k : ℕ) (l : List A) → mapFrom f k l ≡ l
 mapFrom-kept f e k [] = refl

@@ -4,4 +4,8 @@ pub mod Laws
 pub mod Loops
 pub mod Appending
 pub mod Words
+pub mod Algebra
+pub mod Sorting
+pub mod Joining
+pub mod Total
 pub mod Worked

@@ -16,7 +16,7 @@ use Rattle.arrays.specs.Arrays.{foldFrom, find, wordOf}
 use Rattle.arrays.proofs.Loops.{bit-few, unroll}
 
 -- the word of the elements, their indices counted from k
-abbrev wordFrom : {A : Type 0} → (ℕ → A → Bool) → ℕ → List A → ℕ
+abbrev pub wordFrom : {A : Type 0} → (ℕ → A → Bool) → ℕ → List A → ℕ
 wordFrom p = foldFrom (λ k x r. 2 * r + bit (p k x)) 0
 
 -- ---- the lowest set bit
@@ -69,11 +69,11 @@ pub record Worded {A : Type 0} (p : ℕ → A → Bool) (n : ℕ) (xs : List A) 
   pub sized : length xs ≡ n
   pub made : w ≡ wordFrom p i (drop i xs)
 
-double : (m : ℕ) → 2 ^ suc m ≡ 2 * 2 ^ m
+pub double : (m : ℕ) → 2 ^ suc m ≡ 2 * 2 ^ m
 double m = omega (arith, pow-suc 2 m)
 
 -- a word has a digit for each element
-word-below : {A : Type 0} (p : ℕ → A → Bool) (xs : List A) (b : ℕ) → wordFrom p b xs < 2 ^ length xs
+pub word-below : {A : Type 0} (p : ℕ → A → Bool) (xs : List A) (b : ℕ) → wordFrom p b xs < 2 ^ length xs
 word-below p [] b = omega arith
 word-below p (x ∷ xs) b = omega (arith, double (length xs), word-below p xs (suc b), bit-few (p b x))
 

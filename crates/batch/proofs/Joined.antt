@@ -1,19 +1,17 @@
 -- Two batches in a row, each with page bytes of its own, equal the batch that joins them.
 -- Assumes nothing.
-use Prim.Native.Nat.{ℕ, _+_, _*_, _/_, _%_, _≤_, _<_}
+use Prim.Native.Nat.{ℕ, _+_, _*_, _/_, _≤_, _<_}
 use mathlib.Core.Path.{_≡_, refl, sym, ap, ap₂, subst, _∙_}
-use mathlib.Core.Bool.{Bool, true, false}
-use mathlib.Core.List.{List, [], _∷_, _++_, map, map-map, append-nil}
+use mathlib.Core.List.{List, [], _++_, map, map-map, append-nil}
 use native.Mathlib.Omega.{arith}
-use lib.ListN.{length, take, drop, length-append, length-drop, length-map}
+use lib.ListN.{length, take, drop, length-append, length-drop}
 use lib.Seq.{take-append-le, drop-append-le, drop-append-add}
-use Rattle.arrays.specs.Base.{if_then_else_}
 use Rattle.arrays.proofs.Base.{cases}
 use Rattle.wire.specs.Parts.{parts, Each}
 use Rattle.wire.proofs.Numbers.{word-two}
 use Rattle.wire.proofs.Bytes.{Below}
 use Rattle.wire.proofs.Parts.{joined-length, GivenBack, read-joined, each-read, each-both, each-same, each-map, map-each}
-use Rattle.device.specs.Record.{State}
+use Rattle.device.specs.Words.{Worded}
 use Rattle.drive.specs.Calls.{Call}
 use Rattle.calls.specs.Asking.{callOf}
 use Rattle.recording.specs.Forms.{formOf}
@@ -133,15 +131,15 @@ module _ (p q : List ℕ) where
 
 -- Two batches in a row, each with page bytes of its own, equal one: where 64 and the buffer allow it, and all page bytes can be told in two
 -- bytes.
-pub batches-moved : (s : State) (first firstPages later laterPages buffer : List ℕ) → Room (first ++ moved (length firstPages) later) (length buffer)
+pub batches-moved : (r : Worded) (first firstPages later laterPages buffer : List ℕ) → Room (first ++ moved (length firstPages) later) (length buffer)
     → SoundBatch first firstPages → SoundBatch later laterPages → Below later → length firstPages + length laterPages < 65536
-    → InARow s (first ++ moved (length firstPages) later) (firstPages ++ laterPages) first firstPages later laterPages buffer
-batches-moved s first firstPages later laterPages buffer room one two bytes small =
+    → InARow r (first ++ moved (length firstPages) later) (firstPages ++ laterPages) first firstPages later laterPages buffer
+batches-moved r first firstPages later laterPages buffer room one two bytes small =
     let further = moved (length firstPages) later in
     let pages = firstPages ++ laterPages in
     let kept = kept-sound firstPages laterPages first one in
     let calls-of : calls (first ++ further) pages ≡ calls first firstPages ++ calls later laterPages =
     calls-append pages first further (one .whole)
     ∙ ap₂ (λ (k l : List Call). k ++ l) (kept-calls firstPages laterPages first one) (moved-calls firstPages laterPages small later two bytes) in
-    batches-in-a-row s (first ++ further) pages first firstPages later laterPages buffer calls-of room
+    batches-in-a-row r (first ++ further) pages first firstPages later laterPages buffer calls-of room
     (joined-sound first further pages kept (moved-sound firstPages laterPages small later two bytes)) one two

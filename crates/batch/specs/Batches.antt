@@ -5,12 +5,12 @@ use mathlib.Core.List.{List}
 use lib.Dec.{ltb, eqb}
 use lib.ListN.{length}
 use Rattle.arrays.specs.Base.{if_then_else_}
-use Rattle.device.specs.Record.{State}
+use Rattle.device.specs.Words.{Worded}
 use Rattle.recording.specs.Entries.{entrySize, entries, allSound, calls}
 use Rattle.recording.specs.declared.Verdict.{Verdict}
 use Rattle.recording.specs.declared.Verdict.the-variants.{Done, BatchNotTaken, RecordingWrong}
 use Rattle.session.specs.Answers.{answerSize}
-use Rattle.session.specs.Sessions.{recordAfter, bufferAfter}
+use Rattle.session.specs.Records.{recordAfterOf, bufferAfterOf}
 
 -- "One call takes up to 64 events in request 3's form"
 abbrev pub eventsMost : ℕ
@@ -36,9 +36,9 @@ batchVerdict events pages room =
     else RecordingWrong
 
 -- the record after it, from "any starting record": a refused batch is refused "before any event runs"
-abbrev pub batchRecord : State → (events pages buffer : List ℕ) → State
-batchRecord s events pages buffer = recordAfter (batchVerdict events pages (length buffer)) s (calls events pages)
+abbrev pub batchRecord : Worded → (events pages buffer : List ℕ) → Worded
+batchRecord r events pages buffer = recordAfterOf (batchVerdict events pages (length buffer)) r (calls events pages)
 
 -- the "lent buffer for 4 bytes of answer each, bytes beyond kept"; of a refused batch "the buffer is untouched"
-abbrev pub batchBuffer : State → (events pages buffer : List ℕ) → List ℕ
-batchBuffer s events pages buffer = bufferAfter (batchVerdict events pages (length buffer)) s (calls events pages) buffer
+abbrev pub batchBuffer : Worded → (events pages buffer : List ℕ) → List ℕ
+batchBuffer r events pages buffer = bufferAfterOf (batchVerdict events pages (length buffer)) r (calls events pages) buffer

@@ -4,18 +4,17 @@ use Prim.Native.Nat.{ℕ}
 use mathlib.Core.Path.{_≡_, refl, sym, ap, _∙_}
 use mathlib.Core.Bool.{Bool, true, false, _||_}
 use mathlib.Core.List.{List}
-use lib.ListN.{length, set}
+use lib.ListN.{length}
 use Rattle.arrays.specs.Base.{if_then_else_}
 use Rattle.arrays.proofs.Base.{cases, clash}
 use Rattle.answer.specs.Answers.{changeOf, isDone}
 use Rattle.answer.specs.declared.Answer.{Answer}
 use Rattle.answer.specs.declared.Change.{Change}
-use Rattle.answer.specs.declared.Change.the-variants.{Unchanged, AnotherCleared, VendorCleared, Registered}
+use Rattle.answer.specs.declared.Change.the-variants.{Unchanged, Registered}
 use Rattle.device.specs.Record.{State, nexusAt}
 use Rattle.device.specs.Selecting.{selectedSet}
-use Rattle.device.specs.Updates.{withMarks, withNexuses}
-use Rattle.device.specs.declared.Marks.{Marks}
-use Rattle.marks.specs.Marks.{changed, changes}
+use Rattle.marks.specs.Marks.{keepsMarks, changes}
+use Rattle.marks.proofs.Changes.{unchanged, changes-left}
 use Rattle.marks.specs.declared.Actor.the-variants.{Acting}
 use Rattle.drive.specs.declared.Command.{Command}
 use Rattle.drive.specs.declared.Block.{Block}
@@ -23,12 +22,12 @@ use Rattle.drive.specs.Calls.{Call, securityIn, write, read, senderOf, isPowerU
 use Rattle.drive.specs.Checks.{checks, knownAnswer, answerWhere}
 use Rattle.drive.specs.Effects.{nothing, marks, doing, refusal, effectBy}
 use Rattle.drive.specs.After.{Telling, changedBy, carriedOut}
-use Rattle.drive.proofs.Effects.{unchanged, refusal-changes}
+use Rattle.drive.proofs.Effects.{refusal-changes}
 use Rattle.calls.specs.declared.Asked.{Asked}
 use Rattle.calls.specs.declared.Asked.the-variants.{PowerOn, In, Out, Write, Read, UnitReset, Happen}
 use Rattle.calls.specs.declared.Quiet.{Quiet}
 use Rattle.calls.specs.Asking.{callOf, isPowerOn}
-use Rattle.calls.specs.Quiet.{senderNumber, keepsMarks, changeBy, quietly}
+use Rattle.calls.specs.Quiet.{senderNumber, changeBy, quietly}
 
 -- power-on is the call that takes no record
 pub is-power : (asked : Asked) (page : List ℕ) → isPowerUp (callOf asked page) ≡ isPowerOn asked
@@ -54,19 +53,6 @@ pub record Still (rule : Telling) (formed : Bool) (s : State) (call : Call) (a :
   pub answered : answerWhere formed s call ≡ a
   pub stays : carriedOut rule s (effectBy s call (answerWhere formed s call)) ≡ s
   pub running : isPowerUp call ≡ false
-
--- marks that a change leaves
-marks-left : (m : Marks) (change : Change) → keepsMarks m change ≡ true → changed change m ≡ m
-marks-left m Unchanged e = refl
-marks-left m AnotherCleared e = clash e refl
-marks-left m VendorCleared e = clash e refl
-marks-left m Registered e = λ i. record { registered = sym e i; another = m .another; vendor = m .vendor }
-
--- so does the record stay
-changes-left : (s : State) (n : ℕ) (change : Change) → keepsMarks (nexusAt s n .marks) change ≡ true → changes s n change ≡ s
-unfolding changes
-changes-left s n change e =
-    ap (λ (m : Marks). withNexuses (set (s .nexuses) n (withMarks m (nexusAt s n))) s) (marks-left (nexusAt s n .marks) change e) ∙ unchanged s n
 
 -- neither is power-on
 or-none : {A : Type 0} (b : Bool) (x y : A) → if b || false then x else y ≡ if b then x else y

@@ -1,17 +1,18 @@
 -- IN, writes and reads change at most the marks of their sender: what they change is found by the sender and its set alone, and one that
 -- changes nothing needs no record made anew.
 use Prim.Native.Nat.{ℕ}
-use mathlib.Core.Bool.{Bool, true, false}
+use mathlib.Core.Bool.{Bool, false}
 use mathlib.Core.List.{[], _∷_, _++_}
 use Rattle.arrays.specs.Base.{if_then_else_}
 use Rattle.answer.specs.Answers.{changeOf, isDone}
 use Rattle.answer.specs.declared.Answer.{Answer}
 use Rattle.answer.specs.declared.Answer.the-variants.{Done, NotWellFormed}
 use Rattle.answer.specs.declared.Change.{Change}
-use Rattle.answer.specs.declared.Change.the-variants.{Unchanged, AnotherCleared, VendorCleared, Registered}
+use Rattle.answer.specs.declared.Change.the-variants.{Unchanged, Registered}
 use Rattle.device.specs.declared.Marks.{Marks}
 use Rattle.device.specs.declared.Nexus.{Nexus}
 use Rattle.device.specs.declared.Set.{Set}
+use Rattle.marks.specs.Marks.{keepsMarks}
 use Rattle.status.specs.Pages.{isInPage}
 use Rattle.drive.specs.Restoring.{restored}
 use Rattle.drive.specs.Checks.{firstOf, heard, commanded, permitted}
@@ -28,13 +29,6 @@ senderNumber (Write n supported) = n
 senderNumber (Read n block) = n
 senderNumber UnitReset = 0
 senderNumber (Happen event) = 0
-
--- the change leaves these marks as they are
-abbrev pub keepsMarks : Marks → Change → Bool
-keepsMarks marks Unchanged = true
-keepsMarks marks AnotherCleared = false
-keepsMarks marks VendorCleared = false
-keepsMarks marks Registered = marks .registered
 
 -- what a call with that answer changes of its sender's marks, where carried out it makes this change
 abbrev pub changeBy : (doing : Change) → Answer → Change

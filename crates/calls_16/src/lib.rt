@@ -5,10 +5,11 @@ use calls::Asked;
 use device::Nexus;
 use device::Set;
 use device_16::Device;
+use device_16::Record;
 use drive_16::Outcome;
 use sizes_16::NEXUSES;
 ghost use mathlib.Core.Path.{_≡_};
-ghost use Rattle.device_16.specs.Model.{state};
+ghost use Rattle.device_16.specs.Model.{state, worded};
 ghost use Rattle.drive.specs.Checks.{answerWhere};
 ghost use Rattle.drive_16.specs.Outcomes.{outcomeBy};
 ghost use Rattle.calls.specs.Asking.{callOf};
@@ -31,39 +32,39 @@ pub fn look(d: Device, n: u8) -> Sight
 }
 
 // IN, a write or a read, after check 1: it changes its sender's marks alone. IN shows no page.
-fn mark(d: Device, asked: Asked) -> Outcome
-    ensures { λ r. ⌜ r ≡ markedBy (state d) asked ⌝ }
+fn mark(r: Record, asked: Asked) -> Outcome
+    ensures { λ a. ⌜ a ≡ markedBy (worded r) asked ⌝ }
 {
     let n = calls_code::sender_number(asked);
-    let sight = look(d, n);
+    let sight = look(r.device, n);
     let quiet = calls_code::quietly(true, NEXUSES, sight.nexus, sight.set, asked);
     let answer = quiet.answer;
     let change = quiet.change;
     Outcome {
-        device: marks_16::change_marks(d, n, change),
+        after: marks_16::change_marks_in(r, n, change),
         answer,
         sense: answer_code::sense_of(answer),
     }
 }
 
 // Any call of a record that is known to be well formed or not.
-pub fn perform(d: Device, formed: bool, asked: Asked, page: &[u8]) -> Outcome
-    ensures { λ r. ⌜ r ≡ outcomeBy (state d) (callOf asked (now (page .entry))) (answerWhere formed (state d) (callOf asked (now (page .entry)))) ⌝ }
+pub fn perform(r: Record, formed: bool, asked: Asked, page: &[u8]) -> Outcome
+    ensures { λ a. ⌜ a ≡ outcomeBy (worded r) (callOf asked (now (page .entry))) (answerWhere formed (state (r .device)) (callOf asked (now (page .entry)))) ⌝ }
 {
     if !(formed | calls_code::is_power_on(asked)) {
         return Outcome {
-            device: d,
+            after: r,
             answer: Answer::NotWellFormed,
             sense: Sense::NONE,
         };
     }
     match asked {
         Asked::PowerOn => drive_16::power_on(),
-        Asked::In(_) => mark(d, asked),
-        Asked::Out(command) => drive_16::security_out_known(d, command, page),
-        Asked::Write(_, _) => mark(d, asked),
-        Asked::Read(_, _) => mark(d, asked),
-        Asked::UnitReset => drive_16::unit_reset_known(d),
-        Asked::Happen(event) => drive_16::happen_known(d, event),
+        Asked::In(_) => mark(r, asked),
+        Asked::Out(command) => drive_16::security_out_known(r, command, page),
+        Asked::Write(_, _) => mark(r, asked),
+        Asked::Read(_, _) => mark(r, asked),
+        Asked::UnitReset => drive_16::unit_reset_known(r),
+        Asked::Happen(event) => drive_16::happen_known(r, event),
     }
 }

@@ -26,7 +26,7 @@ ghost use Rattle.drive.specs.Restoring.{restored};
 ghost use Rattle.drive.specs.Checks.{firstOf, heard, permitted};
 ghost use Rattle.calls.specs.Kinds.{isEvent};
 ghost use Rattle.calls.specs.Asking.{commandOf, eventOf, askedOf, isPowerOn};
-ghost use Rattle.calls.specs.Quiet.{senderNumber, keepsMarks, changeBy, quietBy, quietly};
+ghost use Rattle.calls.specs.Quiet.{senderNumber, changeBy, quietBy, quietly};
 
 // What a security command says of itself.
 pub fn command_of(nexus: u8, protocol: u8, argument: u16) -> Command
@@ -123,18 +123,6 @@ pub fn sender_number(asked: Asked) -> u8
     }
 }
 
-// The change leaves these marks as they are.
-fn keeps_marks(marks: Marks, change: Change) -> bool
-    ensures { λ r. ⌜ r ≡ keepsMarks marks change ⌝ }
-{
-    match change {
-        Change::Unchanged => true,
-        Change::AnotherCleared => false,
-        Change::VendorCleared => false,
-        Change::Registered => marks.registered,
-    }
-}
-
 // What a call with that answer changes of its sender's marks, where carried out it makes this change.
 fn change_by(doing: Change, answer: Answer) -> Change
     ensures { λ r. ⌜ r ≡ changeBy doing answer ⌝ }
@@ -155,7 +143,7 @@ fn quiet_by(formed: bool, marks: Marks, doing: Change, answer: Answer) -> Quiet
     }
     let change = change_by(doing, answer);
     Quiet {
-        quiet: keeps_marks(marks, change),
+        quiet: marks_code::keeps_marks(marks, change),
         answer,
         change,
     }

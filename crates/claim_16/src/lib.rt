@@ -75,20 +75,20 @@ fn note(rows: [Row; ROWS], asked: Asked, decision: Decision) -> [Row; ROWS]
 pub fn tally(events: &[u8], pages: &[u8]) -> [Row; ROWS]
     ensures { λ r. ⌜ r ≡ rowsOf nexusCount (writesFrom start (calls (now (events .entry)) (now (pages .entry)))) ⌝ }
 {
-    let mut after = device_16::power_on();
+    let mut after = words_16::power_on();
     let mut rows = [Row::NONE; ROWS];
     let mut rest = events;
     while ENTRY_SIZE <= rest.len() {
         let e = recording_code::entry_of(rest);
         let asked = recording_code::asked_of(e);
-        let sight = calls_16::look(after, calls_code::sender_number(asked));
+        let sight = calls_16::look(after.device, calls_code::sender_number(asked));
         let quiet = calls_code::quietly(true, NEXUSES, sight.nexus, sight.set, asked);
         let answer = quiet.answer;
         let noted = note(rows, asked, claim_code::became(answer, sight.set));
         rows = noted;
         if !quiet.quiet {
             let outcome = calls_16::perform(after, true, asked, recording_code::page_of(e, pages));
-            after = outcome.device;
+            after = outcome.after;
         }
         rest = &rest[ENTRY_SIZE..];
     }

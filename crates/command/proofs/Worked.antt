@@ -2,7 +2,7 @@
 use Prim.Native.Nat.{ℕ}
 use mathlib.Core.List.{List, [], _∷_, _++_}
 use lib.Dec.{T}
-use lib.ListN.{take, drop, set, replicate}
+use lib.ListN.{take, set, replicate}
 use Rattle.kad.specs.Reading.{descriptorRules, listed}
 use Rattle.kad.specs.Writing.{descriptors}
 use Rattle.page.specs.Fields.{listOf}
@@ -11,6 +11,7 @@ use Rattle.page.specs.Check.{publicPage, supplementalPage, setPage, checked}
 use Rattle.device.specs.Record.{powerOn}
 use Rattle.device.specs.Selecting.{ownedPlace, selected}
 use Rattle.device.specs.WellFormed.{setGood, nexusGood, ownerIsLocal, wellFormed}
+use Rattle.device.specs.Words.{words, withWords, formed}
 use Rattle.status.specs.Status.{statusBytes}
 use Rattle.status.specs.Rules.{scopeRules, fieldRules, headRules}
 use Rattle.kad.specs.Rules.{listRules}
@@ -19,9 +20,11 @@ use Rattle.marks.specs.Marks.{changes, flagged}
 use Rattle.marks.specs.Reset.{cleared}
 use Rattle.places.specs.Actions.{act, acts, releases, ownPlace, room, pageActions, senderAfter, supplemented, taken}
 use Rattle.drive.specs.Restoring.{underMode}
-use Rattle.drive.specs.Checks.{checks, answer}
+use Rattle.drive.specs.Checks.{checks, answer, knownAnswer, answerWhere}
 use Rattle.drive.specs.Effects.{effectBy}
 use Rattle.drive.specs.After.{actionsOf, changedBy, carriedOut}
+use Rattle.drive.specs.Records.{afterAll}
+use Rattle.drive.specs.Serving.{servedAnswer}
 use Rattle.drive.specs.Outcomes.{responsePage}
 use Rattle.drive.specs.Claims.{page, pageK, locked, withUKad, keyless}
 use Rattle.wire.specs.Numbers.{two}
@@ -30,13 +33,12 @@ use Rattle.record.specs.Bytes.{kadsBytes, setBytes, nexusBytes, recordBytes}
 use Rattle.record.specs.Reading.{kadsRead, fieldsRead, setRead, nexusRead, recordRead}
 use Rattle.record.specs.Good.{goodBytes}
 use Rattle.calls.specs.Asking.{eventOf, askedOf}
-use Rattle.drive.specs.Runs.{runFrom}
 use Rattle.recording.specs.Forms.{formOf}
 use Rattle.recording.specs.Entries.{entryOf, sound, call}
 use Rattle.recording.specs.Claims.{event}
-use Rattle.session.specs.Answers.{answersFrom}
+use Rattle.session.specs.Records.{answersOf}
 use Rattle.command.specs.Requests.{callOrder, toolOrder, orderOf}
-use Rattle.command.specs.Replies.{inReply, outReply, writeReply, readReply, statusReply, takeReply, giveReply, askedReply, batchReply, obeyed}
+use Rattle.command.specs.Replies.{inReply, outReply, writeReply, readReply, servesReply, statusReply, takeReply, giveReply, askedReply, batchReply, obeyed}
 use Rattle.command.specs.Claims.{Exchange, exchange, converse}
 
 -- a reply without data: number, sense
@@ -53,18 +55,23 @@ wrongAt byte = 0x08 ∷ 0x05 ∷ 0x26 ∷ 0x00 ∷ 0x00 ∷ 0x02 ∷ two byte
 abbrev unknown : List ℕ
 unknown = plain 0xFF 0x00 0x00 0x00
 
+-- the word of a place: its last two bytes, of eight
+abbrev serves : ℕ → ℕ → List ℕ
+serves high low = 0x00 ∷ 0x00 ∷ 0x00 ∷ 0x00 ∷ 0x00 ∷ 0x08 ∷ (replicate 6 0x00 ++ high ∷ low ∷ [])
+
 -- the status page after P2
 abbrev status2 : List ℕ
 status2 = 0x00 ∷ 0x20 ∷ 0x00 ∷ 0x14 ∷ 0x21 ∷ 0x02 ∷ 0x02 ∷ 0x01 ∷ 0x00 ∷ 0x00 ∷ 0x00 ∷ 0x01 ∷ 0x02 ∷ replicate 11 0x00
 
--- the record at the session's end: the counter; place 1 released, with number 2; nexus 3 locked, with numbers saved, registered
+-- the record at the session's end: the counter; place 1 released, with number 2; nexus 3 locked, with numbers saved, registered; all select place 0
 abbrev record18 : List ℕ
 record18 =
     0x00 ∷ 0x00 ∷ 0x00 ∷ 0x02 ∷ (replicate 221 0x00
     ++ replicate 5 0x00 ++ 0x00 ∷ 0x00 ∷ 0x00 ∷ 0x02 ∷ (replicate 212 0x00
     ++ replicate 663 0x00
     ++ replicate 39 0x00
-    ++ 0x00 ∷ 0x01 ∷ 0x00 ∷ 0x00 ∷ 0x00 ∷ 0x01 ∷ 0x00 ∷ 0x00 ∷ 0x00 ∷ 0x01 ∷ 0x01 ∷ 0x00 ∷ 0x00 ∷ replicate 156 0x00))
+    ++ 0x00 ∷ 0x01 ∷ 0x00 ∷ 0x00 ∷ 0x00 ∷ 0x01 ∷ 0x00 ∷ 0x00 ∷ 0x00 ∷ 0x01 ∷ 0x01 ∷ 0x00 ∷ 0x00 ∷ (replicate 156 0x00
+    ++ replicate 6 0x00 ++ 0xFF ∷ 0xFF ∷ replicate 32 0x00)))
 
 -- a batch's data: the count of event bytes, the events, the page bytes
 abbrev batch : ℕ → List ℕ → List ℕ → List ℕ
@@ -92,6 +99,10 @@ session =
     ∷ exchange (0xFD ∷ 0x00 ∷ 0x00 ∷ 0x00 ∷ 0x00 ∷ 0x00 ∷ 0x00 ∷ 0x18 ∷ []) status2
     (0x00 ∷ 0x00 ∷ 0x00 ∷ 0x00 ∷ 0x00 ∷ 0x39 ∷ 0x01 ∷ 0x01 ∷ 0x02 ∷ 0x02 ∷ 0x01 ∷ 0x00 ∷ 0x00 ∷ 0x00 ∷ 0x01 ∷ 0x01 ∷ 0x00 ∷ replicate 46 0x00)
     ∷ exchange (0xFD ∷ 0x00 ∷ 0x00 ∷ 0x00 ∷ 0x00 ∷ 0x00 ∷ 0x00 ∷ 0x18 ∷ []) (set status2 23 0x01) (wrongAt 0x17)
+    -- who selects place 0: all but nexus 3; who place 1: it alone, where the other fields aren't read and no data follow; no place 5
+    ∷ exchange (0x0D ∷ 0x00 ∷ 0x00 ∷ 0x00 ∷ 0x00 ∷ 0x00 ∷ 0x00 ∷ 0x00 ∷ []) [] (serves 0xFF 0xF7)
+    ∷ exchange (0x0D ∷ 0xFF ∷ 0x00 ∷ 0x01 ∷ 0x21 ∷ 0x7F ∷ 0xFF ∷ 0xFF ∷ []) [] (serves 0x00 0x08)
+    ∷ exchange (0x0D ∷ 0x00 ∷ 0x00 ∷ 0x05 ∷ 0x00 ∷ 0x00 ∷ 0x00 ∷ 0x00 ∷ []) [] (plain 0x0D 0x00 0x00 0x00)
     -- writes: encrypted; refused; a flag that is neither 0 nor 1
     ∷ exchange (0x03 ∷ 0x03 ∷ 0x00 ∷ 0x01 ∷ 0x00 ∷ 0x00 ∷ 0x00 ∷ 0x00 ∷ []) [] (0x00 ∷ 0x00 ∷ 0x00 ∷ 0x00 ∷ 0x00 ∷ 0x03 ∷ 0x02 ∷ 0x01 ∷ 0x01 ∷ [])
     ∷ exchange (0x03 ∷ 0x03 ∷ 0x00 ∷ 0x00 ∷ 0x00 ∷ 0x00 ∷ 0x00 ∷ 0x00 ∷ []) [] (plain 0x0C 0x07 0x74 0x07)
@@ -107,7 +118,7 @@ session =
     -- a refused IN, whose buffer stays; a buffer too large; no such kind
     ∷ exchange (0x01 ∷ 0x10 ∷ 0x00 ∷ 0x20 ∷ 0x20 ∷ 0x00 ∷ 0x00 ∷ 0x04 ∷ []) [] (0x02 ∷ 0x00 ∷ 0x00 ∷ 0x00 ∷ 0x00 ∷ 0x06 ∷ 0x00 ∷ 0x00 ∷ replicate 4 0xA5)
     ∷ exchange (0x01 ∷ 0x00 ∷ 0x00 ∷ 0x20 ∷ 0x20 ∷ 0x00 ∷ 0x10 ∷ 0x01 ∷ []) [] unknown
-    ∷ exchange (0x0D ∷ 0x00 ∷ 0x00 ∷ 0x00 ∷ 0x00 ∷ 0x00 ∷ 0x00 ∷ 0x03 ∷ []) [] unknown
+    ∷ exchange (0x0E ∷ 0x00 ∷ 0x00 ∷ 0x00 ∷ 0x00 ∷ 0x00 ∷ 0x00 ∷ 0x03 ∷ []) [] unknown
     -- a batch: its answers and a byte beyond; a buffer too short; a wrong event; one that says more events than it has
     ∷ exchange (0x0C ∷ 0x00 ∷ 0x00 ∷ 0x09 ∷ 0x00 ∷ 0x00 ∷ 0x00 ∷ 0x12 ∷ []) (batch 16 written []) (told 0x00 9 (0x0B ∷ 0x07 ∷ 0x2A ∷ 0x13 ∷ 0x00 ∷ 0x00 ∷ 0x00 ∷ 0x00 ∷ 0xA5 ∷ []))
     ∷ exchange (0x0C ∷ 0x00 ∷ 0x00 ∷ 0x07 ∷ 0x00 ∷ 0x00 ∷ 0x00 ∷ 0x12 ∷ []) (batch 16 written []) (told 0x12 7 (replicate 7 0xA5))
@@ -116,11 +127,11 @@ session =
     -- vendor release of a place above; no record; the record
     ∷ exchange (0x0A ∷ 0x00 ∷ 0x00 ∷ 0x05 ∷ 0x00 ∷ 0x00 ∷ 0x00 ∷ 0x00 ∷ []) [] (plain 0x0D 0x00 0x00 0x00)
     ∷ exchange (0xFE ∷ 0x00 ∷ 0x00 ∷ 0x00 ∷ 0x00 ∷ 0x00 ∷ 0x00 ∷ 0x01 ∷ []) (0x02 ∷ []) (plain 0x01 0x00 0x00 0x00)
-    ∷ exchange (0xFF ∷ 0x00 ∷ 0x00 ∷ 0x00 ∷ 0x00 ∷ 0x00 ∷ 0x00 ∷ 0x00 ∷ []) [] (0x00 ∷ 0x00 ∷ 0x00 ∷ 0x00 ∷ 0x05 ∷ 0x25 ∷ record18)
+    ∷ exchange (0xFF ∷ 0x00 ∷ 0x00 ∷ 0x00 ∷ 0x00 ∷ 0x00 ∷ 0x00 ∷ 0x00 ∷ []) [] (0x00 ∷ 0x00 ∷ 0x00 ∷ 0x00 ∷ 0x05 ∷ 0x4D ∷ record18)
     ∷ []
 
-pub session-proved : T (converse (powerOn 16 5) session)
-unfolding session converse obeyed askedReply batchReply formOf entryOf sound call answersFrom runFrom inReply outReply writeReply readReply underMode statusReply takeReply giveReply eventOf askedOf callOrder toolOrder orderOf joined parts kadsBytes setBytes nexusBytes recordBytes kadsRead fieldsRead setRead nexusRead recordRead goodBytes readStatus scopeRules fieldRules headRules listRules answer checks effectBy actionsOf changedBy carriedOut changes flagged cleared responsePage act acts releases ownPlace room pageActions senderAfter supplemented taken statusBytes setGood nexusGood ownerIsLocal wellFormed ownedPlace selected powerOn publicPage supplementalPage setPage checked openRules modeRules plainRules keyRules setRules matchRules endRules supplementalRules listOf descriptorRules listed descriptors
+pub session-proved : T (converse (withWords (powerOn 16 5)) session)
+unfolding session converse obeyed askedReply batchReply formOf entryOf sound call answersOf afterAll inReply outReply writeReply readReply servesReply servedAnswer underMode statusReply takeReply giveReply eventOf askedOf callOrder toolOrder orderOf joined parts kadsBytes setBytes nexusBytes recordBytes kadsRead fieldsRead setRead nexusRead recordRead goodBytes readStatus scopeRules fieldRules headRules listRules answer knownAnswer answerWhere checks effectBy actionsOf changedBy carriedOut changes flagged cleared responsePage act acts releases ownPlace room pageActions senderAfter supplemented taken statusBytes setGood nexusGood ownerIsLocal wellFormed formed words ownedPlace selected powerOn publicPage supplementalPage setPage checked openRules modeRules plainRules keyRules setRules matchRules endRules supplementalRules listOf descriptorRules listed descriptors
 session-proved = tt
 
 -- every kind, and what the session doesn't show
@@ -159,9 +170,10 @@ further =
     ∷ exchange (0x03 ∷ 0x07 ∷ 0x00 ∷ 0x01 ∷ 0x00 ∷ 0x00 ∷ 0x00 ∷ 0x00 ∷ []) [] (0x00 ∷ 0x00 ∷ 0x00 ∷ 0x00 ∷ 0x00 ∷ 0x03 ∷ 0x02 ∷ 0x01 ∷ 0x01 ∷ [])
     ∷ exchange (0x0A ∷ 0x00 ∷ 0x00 ∷ 0x01 ∷ 0x00 ∷ 0x7F ∷ 0x00 ∷ 0x00 ∷ []) [] done
     ∷ exchange (0x01 ∷ 0x07 ∷ 0x00 ∷ 0x20 ∷ 0x20 ∷ 0x7F ∷ 0x00 ∷ 0x00 ∷ []) [] (0x04 ∷ 0x06 ∷ 0x2A ∷ 0x12 ∷ 0x00 ∷ 0x02 ∷ 0x00 ∷ 0x00 ∷ [])
-    -- another protocol; both bytes of a page code
+    -- another protocol; both bytes of a page code, and of a place
     ∷ exchange (0x01 ∷ 0x07 ∷ 0x00 ∷ 0x20 ∷ 0x21 ∷ 0x00 ∷ 0x00 ∷ 0x00 ∷ []) [] (0x05 ∷ 0x05 ∷ 0x24 ∷ 0x00 ∷ 0x00 ∷ 0x02 ∷ 0x00 ∷ 0x00 ∷ [])
     ∷ exchange (0x02 ∷ 0x07 ∷ 0x01 ∷ 0x10 ∷ 0x20 ∷ 0x00 ∷ 0x00 ∷ 0x34 ∷ []) (pageK locked) (plain 0x06 0x05 0x24 0x00)
+    ∷ exchange (0x0D ∷ 0x00 ∷ 0x01 ∷ 0x00 ∷ 0x00 ∷ 0x00 ∷ 0x00 ∷ 0x00 ∷ []) [] (plain 0x0D 0x00 0x00 0x00)
     -- pages that are answered 8: SCOPE 3, a U-KAD of 33 bytes; and damaged status pages, of which one is cut
     ∷ exchange (0x02 ∷ 0x07 ∷ 0x00 ∷ 0x10 ∷ 0x20 ∷ 0x00 ∷ 0x00 ∷ 0x34 ∷ []) (pageK 0x61) (wrongAt 4)
     ∷ exchange (0x02 ∷ 0x07 ∷ 0x00 ∷ 0x10 ∷ 0x20 ∷ 0x00 ∷ 0x00 ∷ 0x59 ∷ []) (withUKad 33) (wrongAt 54)
@@ -171,7 +183,7 @@ further =
     ∷ exchange (0x01 ∷ 0x07 ∷ 0x00 ∷ 0x01 ∷ 0x20 ∷ 0x00 ∷ 0x10 ∷ 0x00 ∷ []) [] (0x00 ∷ 0x00 ∷ 0x00 ∷ 0x00 ∷ 0x10 ∷ 0x02 ∷ 0x00 ∷ 0x06 ∷ 0x00 ∷ 0x01 ∷ 0x00 ∷ 0x02 ∷ 0x00 ∷ 0x10 ∷ replicate 4090 0xA5)
     -- 256 is no flag; the kinds beside those that are known
     ∷ exchange (0x03 ∷ 0x07 ∷ 0x01 ∷ 0x00 ∷ 0x00 ∷ 0x00 ∷ 0x00 ∷ 0x00 ∷ []) [] unknown
-    ∷ exchange (0x0D ∷ 0x00 ∷ 0x00 ∷ 0x00 ∷ 0x00 ∷ 0x00 ∷ 0x00 ∷ 0x00 ∷ []) [] unknown
+    ∷ exchange (0x0E ∷ 0x00 ∷ 0x00 ∷ 0x00 ∷ 0x00 ∷ 0x00 ∷ 0x00 ∷ 0x00 ∷ []) [] unknown
     ∷ exchange (0xFC ∷ 0x00 ∷ 0x00 ∷ 0x00 ∷ 0x00 ∷ 0x00 ∷ 0x00 ∷ 0x00 ∷ []) [] unknown
     -- batches: a page, its write, a demount; the other fields aren't read; from its page bytes, a byte short
     ∷ exchange (0x0C ∷ 0xFF ∷ 0x00 ∷ 0x0C ∷ 0x21 ∷ 0x7F ∷ 0x00 ∷ 0x4E ∷ []) (batch 24 (event 2 9 0x10 0 52 ++ event 3 9 1 0 0 ++ event 5 0 0 0 0) (pageK locked)) (told 0x00 12 (replicate 12 0x00))
@@ -201,32 +213,45 @@ further =
     ∷ exchange (0xFD ∷ 0x00 ∷ 0x00 ∷ 0x00 ∷ 0x00 ∷ 0x00 ∷ 0x00 ∷ 0x17 ∷ []) (take 23 status2) (plain 0x07 0x05 0x1A 0x00)
     ∷ []
 
-pub further-proved : T (converse (powerOn 16 5) further)
-unfolding further converse obeyed askedReply batchReply formOf entryOf sound call answersFrom runFrom inReply outReply writeReply readReply underMode statusReply takeReply giveReply eventOf askedOf callOrder toolOrder orderOf joined parts kadsBytes setBytes nexusBytes recordBytes kadsRead fieldsRead setRead nexusRead recordRead goodBytes readStatus scopeRules fieldRules headRules listRules answer checks effectBy actionsOf changedBy carriedOut changes flagged cleared responsePage act acts releases ownPlace room pageActions senderAfter supplemented taken statusBytes setGood nexusGood ownerIsLocal wellFormed ownedPlace selected powerOn publicPage supplementalPage setPage checked openRules modeRules plainRules keyRules setRules matchRules endRules supplementalRules listOf descriptorRules listed descriptors
+pub further-proved : T (converse (withWords (powerOn 16 5)) further)
+unfolding further converse obeyed askedReply batchReply formOf entryOf sound call answersOf afterAll inReply outReply writeReply readReply servesReply servedAnswer underMode statusReply takeReply giveReply eventOf askedOf callOrder toolOrder orderOf joined parts kadsBytes setBytes nexusBytes recordBytes kadsRead fieldsRead setRead nexusRead recordRead goodBytes readStatus scopeRules fieldRules headRules listRules answer knownAnswer answerWhere checks effectBy actionsOf changedBy carriedOut changes flagged cleared responsePage act acts releases ownPlace room pageActions senderAfter supplemented taken statusBytes setGood nexusGood ownerIsLocal wellFormed formed words ownedPlace selected powerOn publicPage supplementalPage setPage checked openRules modeRules plainRules keyRules setRules matchRules endRules supplementalRules listOf descriptorRules listed descriptors
 further-proved = tt
 
--- on a drive of 2 nexuses and 2 places: the counter at 2, place 1 empty with number 2, nexus 1 locked
-abbrev record2 : List ℕ
-record2 =
+-- on a drive of 2 nexuses and 2 places: the counter at 2, place 1 empty with number 2, nexus 1 locked; a word of place 1
+abbrev recordWith : ℕ → List ℕ
+recordWith word =
     0x00 ∷ 0x00 ∷ 0x00 ∷ 0x02 ∷ (replicate 221 0x00
     ++ replicate 5 0x00 ++ 0x00 ∷ 0x00 ∷ 0x00 ∷ 0x02 ∷ (replicate 212 0x00
     ++ replicate 13 0x00
-    ++ 0x00 ∷ 0x01 ∷ 0x00 ∷ 0x00 ∷ 0x00 ∷ 0x01 ∷ 0x00 ∷ 0x00 ∷ 0x00 ∷ 0x01 ∷ 0x01 ∷ 0x00 ∷ 0x00 ∷ []))
+    ++ 0x00 ∷ 0x01 ∷ 0x00 ∷ 0x00 ∷ 0x00 ∷ 0x01 ∷ 0x00 ∷ 0x00 ∷ 0x00 ∷ 0x01 ∷ 0x01 ∷ 0x00 ∷ 0x00 ∷ (replicate 7 0x00 ++ 0x03 ∷ (replicate 7 0x00 ++ word ∷ []))))
+
+-- both nexuses select place 0
+abbrev record2 : List ℕ
+record2 = recordWith 0x00
 
 -- a record is taken, and given again; one whose last yes/no byte is 2 is refused, and the first stays
 unfoldable pub records : List Exchange
 records =
-    exchange (0xFE ∷ 0x00 ∷ 0x00 ∷ 0x00 ∷ 0x00 ∷ 0x00 ∷ 0x01 ∷ 0xD8 ∷ []) record2 done
-    ∷ exchange (0xFE ∷ 0x00 ∷ 0x00 ∷ 0x00 ∷ 0x00 ∷ 0x00 ∷ 0x01 ∷ 0xD8 ∷ []) (take 471 record2 ++ 0x02 ∷ []) (plain 0x01 0x00 0x00 0x00)
-    ∷ exchange (0xFF ∷ 0x00 ∷ 0x00 ∷ 0x00 ∷ 0x00 ∷ 0x00 ∷ 0x00 ∷ 0x00 ∷ []) [] (0x00 ∷ 0x00 ∷ 0x00 ∷ 0x00 ∷ 0x01 ∷ 0xD8 ∷ record2)
+    exchange (0xFE ∷ 0x00 ∷ 0x00 ∷ 0x00 ∷ 0x00 ∷ 0x00 ∷ 0x01 ∷ 0xE8 ∷ []) record2 done
+    ∷ exchange (0xFE ∷ 0x00 ∷ 0x00 ∷ 0x00 ∷ 0x00 ∷ 0x00 ∷ 0x01 ∷ 0xE8 ∷ []) (set record2 471 0x02) (plain 0x01 0x00 0x00 0x00)
+    ∷ exchange (0xFF ∷ 0x00 ∷ 0x00 ∷ 0x00 ∷ 0x00 ∷ 0x00 ∷ 0x00 ∷ 0x00 ∷ []) [] (0x00 ∷ 0x00 ∷ 0x00 ∷ 0x00 ∷ 0x01 ∷ 0xE8 ∷ record2)
     ∷ exchange (0x03 ∷ 0x01 ∷ 0x00 ∷ 0x01 ∷ 0x00 ∷ 0x00 ∷ 0x00 ∷ 0x00 ∷ []) [] (plain 0x0B 0x07 0x2A 0x13)
-    -- a record that isn't well formed: a batch answers 1 until its power-on
-    ∷ exchange (0xFE ∷ 0x00 ∷ 0x00 ∷ 0x00 ∷ 0x00 ∷ 0x00 ∷ 0x01 ∷ 0xD8 ∷ []) (take 446 record2 ++ 0x01 ∷ drop 447 record2) done
+    ∷ exchange (0x0D ∷ 0x00 ∷ 0x00 ∷ 0x00 ∷ 0x00 ∷ 0x00 ∷ 0x00 ∷ 0x00 ∷ []) [] (serves 0x00 0x03)
+    ∷ exchange (0x0D ∷ 0x00 ∷ 0x00 ∷ 0x01 ∷ 0x00 ∷ 0x00 ∷ 0x00 ∷ 0x00 ∷ []) [] (serves 0x00 0x00)
+    ∷ exchange (0x0D ∷ 0x00 ∷ 0x00 ∷ 0x02 ∷ 0x00 ∷ 0x00 ∷ 0x00 ∷ 0x00 ∷ []) [] (plain 0x0D 0x00 0x00 0x00)
+    -- a record that isn't well formed: its word of place 1 isn't what the scopes say; it is taken and given as it is
+    ∷ exchange (0xFE ∷ 0x00 ∷ 0x00 ∷ 0x00 ∷ 0x00 ∷ 0x00 ∷ 0x01 ∷ 0xE8 ∷ []) (recordWith 0x02) done
+    ∷ exchange (0x0D ∷ 0x00 ∷ 0x00 ∷ 0x01 ∷ 0x00 ∷ 0x00 ∷ 0x00 ∷ 0x00 ∷ []) [] (plain 0x01 0x00 0x00 0x00)
+    ∷ exchange (0x0D ∷ 0x00 ∷ 0x00 ∷ 0x02 ∷ 0x00 ∷ 0x00 ∷ 0x00 ∷ 0x00 ∷ []) [] (plain 0x01 0x00 0x00 0x00)
+    ∷ exchange (0x03 ∷ 0x01 ∷ 0x00 ∷ 0x01 ∷ 0x00 ∷ 0x00 ∷ 0x00 ∷ 0x00 ∷ []) [] (plain 0x01 0x00 0x00 0x00)
+    ∷ exchange (0xFF ∷ 0x00 ∷ 0x00 ∷ 0x00 ∷ 0x00 ∷ 0x00 ∷ 0x00 ∷ 0x00 ∷ []) [] (0x00 ∷ 0x00 ∷ 0x00 ∷ 0x00 ∷ 0x01 ∷ 0xE8 ∷ recordWith 0x02)
+    -- another: a batch answers 1 until its power-on
+    ∷ exchange (0xFE ∷ 0x00 ∷ 0x00 ∷ 0x00 ∷ 0x00 ∷ 0x00 ∷ 0x01 ∷ 0xE8 ∷ []) (set record2 446 0x01) done
     ∷ exchange (0x0C ∷ 0x00 ∷ 0x00 ∷ 0x04 ∷ 0x00 ∷ 0x00 ∷ 0x00 ∷ 0x0A ∷ []) (batch 8 (event 3 1 1 0 0) []) (told 0x00 4 (0x01 ∷ 0x00 ∷ 0x00 ∷ 0x00 ∷ []))
     ∷ exchange (0x0C ∷ 0x00 ∷ 0x00 ∷ 0x0C ∷ 0x00 ∷ 0x00 ∷ 0x00 ∷ 0x1A ∷ []) (batch 24 (event 3 1 1 0 0 ++ event 0 0 0 0 0 ++ event 3 1 1 0 0) []) (told 0x00 12 (0x01 ∷ replicate 11 0x00))
     ∷ exchange (0x03 ∷ 0x01 ∷ 0x00 ∷ 0x01 ∷ 0x00 ∷ 0x00 ∷ 0x00 ∷ 0x00 ∷ []) [] (0x00 ∷ 0x00 ∷ 0x00 ∷ 0x00 ∷ 0x00 ∷ 0x03 ∷ 0x00 ∷ 0x00 ∷ 0x00 ∷ [])
     ∷ []
 
-pub records-proved : T (converse (powerOn 2 2) records)
-unfolding records converse obeyed askedReply batchReply formOf entryOf sound call answersFrom runFrom inReply outReply writeReply readReply underMode statusReply takeReply giveReply eventOf askedOf callOrder toolOrder orderOf joined parts kadsBytes setBytes nexusBytes recordBytes kadsRead fieldsRead setRead nexusRead recordRead goodBytes readStatus scopeRules fieldRules headRules listRules answer checks effectBy actionsOf changedBy carriedOut changes flagged cleared responsePage act acts releases ownPlace room pageActions senderAfter supplemented taken statusBytes setGood nexusGood ownerIsLocal wellFormed ownedPlace selected powerOn publicPage supplementalPage setPage checked openRules modeRules plainRules keyRules setRules matchRules endRules supplementalRules listOf descriptorRules listed descriptors
+pub records-proved : T (converse (withWords (powerOn 2 2)) records)
+unfolding records converse obeyed askedReply batchReply formOf entryOf sound call answersOf afterAll inReply outReply writeReply readReply servesReply servedAnswer underMode statusReply takeReply giveReply eventOf askedOf callOrder toolOrder orderOf joined parts kadsBytes setBytes nexusBytes recordBytes kadsRead fieldsRead setRead nexusRead recordRead goodBytes readStatus scopeRules fieldRules headRules listRules answer knownAnswer answerWhere checks effectBy actionsOf changedBy carriedOut changes flagged cleared responsePage act acts releases ownPlace room pageActions senderAfter supplemented taken statusBytes setGood nexusGood ownerIsLocal wellFormed formed words ownedPlace selected powerOn publicPage supplementalPage setPage checked openRules modeRules plainRules keyRules setRules matchRules endRules supplementalRules listOf descriptorRules listed descriptors
 records-proved = tt

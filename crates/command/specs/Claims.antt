@@ -3,7 +3,7 @@ use Prim.Native.Nat.{ℕ}
 use mathlib.Core.Bool.{Bool, true, _&&_}
 use mathlib.Core.List.{List, [], _∷_}
 use lib.ListN.{replicate}
-use Rattle.device.specs.Record.{State}
+use Rattle.device.specs.Words.{Worded}
 use Rattle.drive.specs.Claims.{sameList}
 use Rattle.command.specs.Requests.{requestOf, orderOf, lentSize}
 use Rattle.command.specs.Replies.{Replied, replyBytes, replied}
@@ -18,10 +18,10 @@ abbrev pub exchange : List ℕ → List ℕ → List ℕ → Exchange
 exchange bytes page reply = record { bytes = bytes; page = page; reply = reply }
 
 -- "The lent buffer holds A5h in each byte before the call"
-abbrev pub repliedTo : State → Exchange → Replied
-repliedTo s x = let request = requestOf (x .bytes) in replied s request (x .page) (replicate (lentSize (orderOf request)) 0xA5)
+abbrev pub repliedTo : Worded → Exchange → Replied
+repliedTo r x = let request = requestOf (x .bytes) in replied r request (x .page) (replicate (lentSize (orderOf request)) 0xA5)
 
 -- each command is answered so, one after another
-unfoldable pub converse : State → List Exchange → Bool
-converse s [] = true
-converse s (x ∷ more) = let r = repliedTo s x in sameList (replyBytes r) (x .reply) && converse (r .state) more
+unfoldable pub converse : Worded → List Exchange → Bool
+converse r [] = true
+converse r (x ∷ more) = let told = repliedTo r x in sameList (replyBytes told) (x .reply) && converse (told .after) more

@@ -7,6 +7,9 @@ use Rattle.calls.specs.Kinds.{outKind}
 abbrev pub batchKind : ℕ
 batchKind = 12
 
+abbrev pub servesKind : ℕ
+servesKind = 13
+
 abbrev pub readStatusKind : ℕ
 readStatusKind = 253
 

@@ -9,10 +9,10 @@ use Rattle.wire.specs.Numbers.{byteAt, wordAt}
 use Rattle.calls.specs.Kinds.{inKind, writeKind, isCall}
 use Rattle.calls.specs.Asking.{flagMost, askedOf}
 use Rattle.calls.specs.declared.Asked.{Asked}
-use Rattle.command.specs.Kinds.{batchKind, readStatusKind, takeRecordKind, giveRecordKind}
+use Rattle.command.specs.Kinds.{batchKind, servesKind, readStatusKind, takeRecordKind, giveRecordKind}
 use Rattle.command.specs.declared.Request.{Request}
 use Rattle.command.specs.declared.Order.{Order}
-use Rattle.command.specs.declared.Order.the-variants.{Unknown, Ask, Batch, ReadStatus, TakeRecord, GiveRecord}
+use Rattle.command.specs.declared.Order.the-variants.{Unknown, Ask, Batch, Serves, ReadStatus, TakeRecord, GiveRecord}
 
 -- "0 kind; 1 nexus; 2–3 argument; 4 protocol; 5 port: not read; 6–7 length L"
 abbrev pub requestOf : List ℕ → Request
@@ -52,12 +52,13 @@ batchOrder r = if leb (r .argument) lentMost then Batch (r .argument) else Unkno
 unfoldable pub toolOrder : Request → Order
 toolOrder r =
     if eqb (r .kind) batchKind then batchOrder r
+    else if eqb (r .kind) servesKind then Serves (r .argument)
     else if eqb (r .kind) readStatusKind then ReadStatus
     else if eqb (r .kind) takeRecordKind then TakeRecord
     else if eqb (r .kind) giveRecordKind then GiveRecord
     else Unknown
 
--- "An unknown command is one of a kind not in the table (13 to 252), .."
+-- "An unknown command is one of a kind not in the table (14 to 252), .."
 unfoldable pub orderOf : Request → Order
 orderOf r = if isCall (r .kind) then callOrder r else toolOrder r
 
@@ -66,6 +67,7 @@ abbrev pub lentSize : Order → ℕ
 lentSize Unknown = 0
 lentSize (Ask asked size) = size
 lentSize (Batch size) = size
+lentSize (Serves place) = 0
 lentSize ReadStatus = 0
 lentSize TakeRecord = 0
 lentSize GiveRecord = 0

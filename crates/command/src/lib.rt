@@ -4,6 +4,8 @@ use calls::Asked;
 // The kinds that are no calls of the drive's; those of calls are in crate calls.
 pub const BATCH: u8 = 12;
 
+pub const SERVES: u8 = 13;
+
 pub const READ_STATUS: u8 = 253;
 
 pub const TAKE_RECORD: u8 = 254;
@@ -25,11 +27,12 @@ pub struct Request {
     pub length: u16,
 }
 
-// What a command orders. Ask holds a call of the drive's and the size of the buffer that is lent to IN, Batch that of its own.
+// What a command orders. Ask holds a call of the drive's and the size of the buffer that is lent to IN, Batch that of its own, Serves the place.
 pub enum Order {
     Unknown,
     Ask(Asked, u16),
     Batch(u16),
+    Serves(u16),
     ReadStatus,
     TakeRecord,
     GiveRecord,

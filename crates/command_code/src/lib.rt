@@ -10,6 +10,7 @@ use command::LENT_MOST;
 use command::Order;
 use command::READ_STATUS;
 use command::Request;
+use command::SERVES;
 use command::TAKE_RECORD;
 use status::Status;
 ghost use mathlib.Core.Path.{_≡_};
@@ -86,6 +87,9 @@ fn tool_order(request: Request) -> Order
     let kind = request.kind;
     if kind == BATCH {
         return batch_order(request);
+    }
+    if kind == SERVES {
+        return Order::Serves(request.argument);
     }
     if kind == READ_STATUS {
         return Order::ReadStatus;

@@ -1,7 +1,7 @@
 // The drive on a pipe: commands on standard input, replies on standard output, as docs/CONSOLE.md tells. Here is what is read and
 // written; what a command is answered is stream_16's.
 use command::Request;
-use device_16::Device;
+use device_16::Record;
 use libc::STDIN_FILENO;
 use libc::STDOUT_FILENO;
 use reply_16::HEAD_SIZE;
@@ -15,7 +15,7 @@ const COMMAND_SIZE: usize = 8;
 
 // The record after a command, and whether to go on.
 struct Turn {
-    device: Device,
+    after: Record,
     more: bool,
 }
 
@@ -32,12 +32,12 @@ fn send(buffer: [u8; REPLY_MOST], reply: Reply) -> bool
 }
 
 // Answers a command. The reply's buffer is filled with A5h, for IN to lend.
-fn answer(d: Device, request: Request, data: &[u8]) -> Turn {
+fn answer(r: Record, request: Request, data: &[u8]) -> Turn {
     let mut buffer = [0xA5u8; REPLY_MOST];
-    let reply = stream_16::obey(d, request, data, &mut buffer);
-    let device = reply.device;
+    let reply = stream_16::obey(r, request, data, &mut buffer);
+    let after = reply.after;
     Turn {
-        device,
+        after,
         more: send(buffer, reply),
     }
 }
@@ -51,42 +51,42 @@ fn read_data(buffer: &mut [u8], wanted: usize) -> usize {
 }
 
 // Reads a command's data and answers it; a part of the data is ignored.
-fn take_data(d: Device, request: Request) -> Turn {
+fn take_data(r: Record, request: Request) -> Turn {
     let mut data = io::large_buffer();
     let wanted = request.length as usize;
     if read_data(&mut data, wanted) < wanted {
         return Turn {
-            device: d,
+            after: r,
             more: false,
         };
     }
-    answer(d, request, &data[0..wanted])
+    answer(r, request, &data[0..wanted])
 }
 
 // Reads a command and answers it; a part of a command is ignored.
-fn take_command(d: Device) -> Turn {
+fn take_command(r: Record) -> Turn {
     let mut bytes = [0u8; COMMAND_SIZE];
     if io::read_full(STDIN_FILENO, &mut bytes) < COMMAND_SIZE {
         return Turn {
-            device: d,
+            after: r,
             more: false,
         };
     }
     let request = command_code::request_of(bytes);
     if command_code::has_data(request.kind) {
-        return take_data(d, request);
+        return take_data(r, request);
     }
-    answer(d, request, &bytes[0..0])
+    answer(r, request, &bytes[0..0])
 }
 
 // A proved loop has to end, and nothing says that the input does: so the commands are counted, up to a number that no run reaches.
 fn main() {
-    let mut d = device_16::power_on();
+    let mut r = words_16::power_on();
     for _ in 0..u64::MAX {
-        let turn = take_command(d);
+        let turn = take_command(r);
         if !turn.more {
             return;
         }
-        d = turn.device;
+        r = turn.after;
     }
 }

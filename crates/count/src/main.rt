@@ -1,6 +1,6 @@
 // Makes one kind of call many times over, for counting its instructions (bench/run). Input: the kind, the turns divided by ten, and
 // the nexus that calls.
-use device_16::Device;
+use device_16::Record;
 use drive::Block;
 use drive::Command;
 use places::Event;
@@ -28,50 +28,50 @@ fn command(nexus: u8, code: u16) -> Command {
     }
 }
 
-fn writes(start: Device, n: u8, turns: u32) -> Device {
+fn writes(start: Record, n: u8, turns: u32) -> Record {
     let mut d = start;
     let mut i: u32 = 0;
     while i < turns {
         let w = drive_16::write(d, n, true);
-        let next = w.device;
+        let next = w.after;
         d = next;
         i += 1;
     }
     d
 }
 
-fn reads(start: Device, n: u8, turns: u32) -> Device {
+fn reads(start: Record, n: u8, turns: u32) -> Record {
     let mut d = start;
     let mut i: u32 = 0;
     while i < turns {
         let w = drive_16::read(d, n, Block { kind: 1, key: 0 });
-        let next = w.device;
+        let next = w.after;
         d = next;
         i += 1;
     }
     d
 }
 
-fn ins(start: Device, n: u8, turns: u32) -> Device {
+fn ins(start: Record, n: u8, turns: u32) -> Record {
     let mut d = start;
     let mut i: u32 = 0;
     while i < turns {
         let mut buffer = [0u8; 64];
         let w = drive_16::security_in(d, command(n, 0x20), &mut buffer);
-        let next = w.device;
+        let next = w.after;
         d = next;
         i += 1;
     }
     d
 }
 
-fn outs(start: Device, n: u8, turns: u32) -> Device {
+fn outs(start: Record, n: u8, turns: u32) -> Record {
     let mut d = start;
     let page = page_k();
     let mut i: u32 = 0;
     while i < turns {
         let w = drive_16::security_out(d, command(n, 0x10), &page);
-        let next = w.device;
+        let next = w.after;
         d = next;
         i += 1;
     }
@@ -86,27 +86,27 @@ fn local_page(lock: bool) -> [u8; 52] {
 }
 
 // Places taken by the nexuses from the first to before the end, with or without the lock.
-fn taken(start: Device, first: u8, end: u8, lock: bool) -> Device {
+fn taken(start: Record, first: u8, end: u8, lock: bool) -> Record {
     let mut d = start;
     let page = local_page(lock);
     for n in first..end {
         let w = drive_16::security_out(d, command(n, 0x10), &page);
-        let next = w.device;
+        let next = w.after;
         d = next;
     }
     d
 }
 
 // LOCAL pages of nexus 15, which has no place, each from the same record but for the counter.
-fn locals(start: Device, turns: u32) -> Device {
+fn locals(start: Record, turns: u32) -> Record {
     let page = local_page(false);
     let mut d = start;
     let mut i: u32 = 0;
     while i < turns {
         let w = drive_16::security_out(d, command(15, 0x10), &page);
-        let next = w.device;
+        let next = w.after;
         d = start;
-        d.counter = next.counter;
+        d.device.counter = next.device.counter;
         i += 1;
     }
     d
@@ -114,7 +114,7 @@ fn locals(start: Device, turns: u32) -> Device {
 
 // The places taken before those pages, place 1 by nexus 3, place 2 by nexus 4 ..: all, without the lock; all, the last alone without
 // it; all but the last, with it; all, with it.
-fn places_taken(d: Device, kind: u8) -> Device {
+fn places_taken(d: Record, kind: u8) -> Record {
     let last = PLACES as u8 + 1;
     if kind == 6 {
         return taken(d, 3, last + 1, false);
@@ -128,19 +128,19 @@ fn places_taken(d: Device, kind: u8) -> Device {
     taken(d, 3, last + 1, true)
 }
 
-fn events(start: Device, turns: u32, event: Event) -> Device {
+fn events(start: Record, turns: u32, event: Event) -> Record {
     let mut d = start;
     let mut i: u32 = 0;
     while i < turns {
         let w = drive_16::happen(d, event);
-        let next = w.device;
+        let next = w.after;
         d = next;
         i += 1;
     }
     d
 }
 
-fn run(d: Device, kind: u8, n: u8, turns: u32) -> Device {
+fn run(d: Record, kind: u8, n: u8, turns: u32) -> Record {
     if kind == 0 {
         return writes(d, n, turns);
     }
@@ -171,12 +171,12 @@ fn main() {
     libc::read(0, &mut input);
     let page = page_k();
     let first = drive_16::power_on();
-    let on = first.device;
+    let on = first.after;
     let sent = drive_16::security_out(on, command(3, 0x10), &page);
-    let start = sent.device;
+    let start = sent.after;
     let kind = input[0];
     let turns = turns_of(input[1]);
     let d = run(start, kind, input[2], turns);
-    let out = [(d.counter % 256) as u8];
+    let out = [(d.device.counter % 256) as u8];
     io::write_all(1, &out);
 }

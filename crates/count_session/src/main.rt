@@ -2,7 +2,7 @@
 // events alone, 1 makes each call by itself, 2 replays it, 3 sends it in batches of 64. Output: the record at the end.
 use batch::EVENTS_MOST;
 use calls::Asked;
-use device_16::Device;
+use device_16::Record;
 use recording::ENTRY_SIZE;
 use session::ANSWER_SIZE;
 use session::ANSWERS_MOST;
@@ -11,36 +11,36 @@ use session::ANSWERS_MOST;
 const BATCH_SIZE: usize = ENTRY_SIZE * EVENTS_MOST;
 
 // One call, with its check 1.
-fn call(d: Device, asked: Asked, page: &[u8]) -> Device {
+fn call(r: Record, asked: Asked, page: &[u8]) -> Record {
     match asked {
         Asked::PowerOn => {
             let outcome = drive_16::power_on();
-            outcome.device
+            outcome.after
         }
         Asked::In(command) => {
             let mut nothing = [0u8; 0];
-            let outcome = drive_16::security_in(d, command, &mut nothing);
-            outcome.device
+            let outcome = drive_16::security_in(r, command, &mut nothing);
+            outcome.after
         }
         Asked::Out(command) => {
-            let outcome = drive_16::security_out(d, command, page);
-            outcome.device
+            let outcome = drive_16::security_out(r, command, page);
+            outcome.after
         }
         Asked::Write(n, supported) => {
-            let outcome = drive_16::write(d, n, supported);
-            outcome.device
+            let outcome = drive_16::write(r, n, supported);
+            outcome.after
         }
         Asked::Read(n, block) => {
-            let outcome = drive_16::read(d, n, block);
-            outcome.device
+            let outcome = drive_16::read(r, n, block);
+            outcome.after
         }
         Asked::UnitReset => {
-            let outcome = drive_16::unit_reset(d);
-            outcome.device
+            let outcome = drive_16::unit_reset(r);
+            outcome.after
         }
         Asked::Happen(event) => {
-            let outcome = drive_16::happen(d, event);
-            outcome.device
+            let outcome = drive_16::happen(r, event);
+            outcome.after
         }
     }
 }
@@ -60,41 +60,41 @@ fn read_alone(events: &[u8], pages: &[u8]) -> u8 {
 }
 
 // Makes each call by itself.
-fn one_by_one(start: Device, events: &[u8], pages: &[u8]) -> Device {
-    let mut d = start;
+fn one_by_one(start: Record, events: &[u8], pages: &[u8]) -> Record {
+    let mut r = start;
     let mut rest = events;
     while ENTRY_SIZE <= rest.len() {
         let e = recording_code::entry_of(rest);
-        d = call(
-            d,
+        r = call(
+            r,
             recording_code::asked_of(e),
             recording_code::page_of(e, pages),
         );
         rest = &rest[ENTRY_SIZE..];
     }
-    d
+    r
 }
 
 // Sends one batch.
-fn send(d: Device, events: &[u8], pages: &[u8]) -> Device {
+fn send(r: Record, events: &[u8], pages: &[u8]) -> Record {
     let mut answers = [0u8; ANSWER_SIZE * EVENTS_MOST];
-    let ran = batch_16::batch(d, events, pages, &mut answers);
-    ran.device
+    let ran = batch_16::batch(r, events, pages, &mut answers);
+    ran.after
 }
 
 // Sends the events in batches of 64, the last of what is left, each with all page bytes.
-fn in_batches(start: Device, events: &[u8], pages: &[u8]) -> Device {
-    let mut d = start;
+fn in_batches(start: Record, events: &[u8], pages: &[u8]) -> Record {
+    let mut r = start;
     let mut rest = events;
     while BATCH_SIZE <= rest.len() {
-        d = send(d, &rest[0..BATCH_SIZE], pages);
+        r = send(r, &rest[0..BATCH_SIZE], pages);
         rest = &rest[BATCH_SIZE..];
     }
-    send(d, rest, pages)
+    send(r, rest, pages)
 }
 
-fn play(way: u8, file: &[u8]) -> Device {
-    let start = device_16::power_on();
+fn play(way: u8, file: &[u8]) -> Record {
+    let start = words_16::power_on();
     let events = recording_code::events_of(file);
     let pages = recording_code::pages_of(file);
     if way == 1 {
@@ -103,7 +103,7 @@ fn play(way: u8, file: &[u8]) -> Device {
     if way == 2 {
         let mut answers = [0u8; ANSWERS_MOST];
         let ran = session_16::replay(file, &mut answers);
-        return ran.device;
+        return ran.after;
     }
     if way == 3 {
         return in_batches(start, events, pages);

@@ -1,4 +1,5 @@
 pub mod Selecting
+pub mod Scopes
 pub mod WellFormed
 pub mod Worked
 pub mod Settled

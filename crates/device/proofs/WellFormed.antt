@@ -10,8 +10,8 @@ use lib.Dec.{lit≤, eqb, ltb}
 use lib.ListN.{length, getD, length-replicate, getD-replicate, List·getD-eq-default}
 use Rattle.arrays.specs.Base.{if_then_else_}
 use Rattle.arrays.specs.Arrays.{each, all, count}
-use Rattle.arrays.proofs.Base.{cases, both, clash, not-zero, if-elim, if-map, and-left, and-right, and-both, each-holds, or-other, or-of, or-then, then-or, or-if, same-truth}
-use Rattle.arrays.proofs.Counting.{count-none, count-one, count-same}
+use Rattle.arrays.proofs.Base.{cases, both, clash, not-zero, if-elim, if-map, and-both, each-holds, or-other, or-of, or-then, then-or, or-if, same-truth}
+use Rattle.arrays.proofs.Counting.{count-none, count-same}
 use Rattle.arrays.proofs.Laws.{each-at, each-of}
 use Rattle.wire.specs.Buffers.{allZero}
 use Rattle.kad.specs.Kad.{tailsGood}
@@ -22,7 +22,7 @@ use Rattle.parameters.specs.declared.Fields.{Fields}
 use Rattle.parameters.proofs.Good.{Ranges, ranges, ranges-good, ZeroFields, zero-fields}
 use Rattle.device.specs.Record.{State, powerOn, established, emptySet, setAt, nexusAt, noSet, newNexus, empty, used}
 use Rattle.device.specs.Selecting.{owns}
-use Rattle.device.specs.WellFormed.{setCodes, setTails, scopeFits, setZero, emptyIsZero, setGood, localOwnsOne, allOwnsFirst, nexusGood, ownerIsLocal, usedGood, hasAll, wellFormed}
+use Rattle.device.specs.WellFormed.{scopeFits, setFits, setZero, emptyIsZero, setGood, localOwnsOne, allOwnsFirst, nexusGood, ownerIsLocal, usedFits, hasAll, wellFormed}
 use Rattle.device.specs.declared.Set.{Set}
 use Rattle.device.specs.declared.Nexus.{Nexus}
 
@@ -229,7 +229,7 @@ power-on-well nexuses places h =
       single = omega (arith, none);
     })
 
--- ---- the tests of the code: an empty place is only asked whether it is zero, a used one never, and no ALL nexus is counted
+-- ---- the tests of the code: an empty place is only asked whether it is zero, and a used one never
 
 -- a set that is zero is good
 zero-good : (nexuses place : ℕ) (set : Set) → 0 < nexuses → setZero set ≡ true → setGood nexuses place set ≡ true
@@ -258,31 +258,34 @@ zero-good nexuses place set h z =
       zero = λ x. z;
     })
 
--- what the tests of a place and those of the definition tell of each other
-module _ (nexuses : List Nexus) (count place : ℕ) (set : Set) where
-  -- what both ask of a used place
-  abbrev front : Bool
-  front = setCodes count set && setTails set && scopeFits place set
+-- the tests of a place, and what is asked of its set
+module _ (count place : ℕ) (set : Set) where
+  good-tested : setGood count place set ≡ true → (emptyIsZero set ≡ true) × (usedFits count place set ≡ true)
+  unfolding setGood usedFits
+  good-tested g =
+      let h = and-both (setFits count place set) (emptyIsZero set) g in
+      (h .1, or-of (empty set) _ (λ f. h .0))
 
-  good-tested : setGood count place set ≡ true → ownerIsLocal nexuses place set ≡ true → (emptyIsZero set ≡ true) × (usedGood count nexuses place set ≡ true)
-  unfolding setGood usedGood
-  good-tested g o =
-      let h = and-both front (emptyIsZero set) g in
-      (h .1, or-of (empty set) _ (λ f. both front (ownerIsLocal nexuses place set) (h .0) o))
-
-  tested-good : 0 < count → emptyIsZero set ≡ true → usedGood count nexuses place set ≡ true → setGood count place set ≡ true
-  unfolding setGood usedGood
+  tested-good : 0 < count → emptyIsZero set ≡ true → usedFits count place set ≡ true → setGood count place set ≡ true
+  unfolding setGood usedFits
   tested-good h e u =
       cases (empty set)
       (λ t. zero-good count place set h (or-then (empty set) _ e t))
-      (λ f. both front (emptyIsZero set) (and-left front (ownerIsLocal nexuses place set) (or-other (empty set) _ u f)) e)
+      (λ f. both (setFits count place set) (emptyIsZero set) (or-other (empty set) _ u f) e)
 
-  tested-owner : usedGood count nexuses place set ≡ true → ownerIsLocal nexuses place set ≡ true
-  unfolding usedGood ownerIsLocal
-  tested-owner u =
-      cases (empty set)
-      (λ t. owner-local nexuses place set (λ l x. clash x (ap not t)))
-      (λ f. and-right front (ownerIsLocal nexuses place set) (or-other (empty set) _ u f))
+-- each set is good where all places pass as empty, and all as used
+pub sets-tested : (count : ℕ) → 0 < count → (sets : List Set) → each (setGood count) sets ≡ (all emptyIsZero sets && each (usedFits count) sets)
+sets-tested count h sets =
+    same-truth (each (setGood count) sets) _
+    (λ t.
+    let at = each-at (setGood count) noSet sets t in
+    both _ _
+    (each-of (λ k. emptyIsZero) noSet sets (λ place i. good-tested count place (getD sets place noSet) (at place i) .0))
+    (each-of (usedFits count) noSet sets (λ place i. good-tested count place (getD sets place noSet) (at place i) .1)))
+    (λ t.
+    let parts = and-both (all emptyIsZero sets) (each (usedFits count) sets) t in
+    each-of (setGood count) noSet sets
+    (λ place i. tested-good count place (getD sets place noSet) h (each-at (λ k. emptyIsZero) noSet sets (parts .0) place i) (each-at (usedFits count) noSet sets (parts .1) place i)))
 
 -- what three tests in a row answer: the first that fails, or the last
 pub stops-first : (a b c : Bool) → false ≡ a → false ≡ (a && b && c)
@@ -293,32 +296,6 @@ stops-second a b c e f = rw (sym e, sym f)
 
 pub ends-third : (a b c r : Bool) → true ≡ a → true ≡ b → r ≡ c → r ≡ (a && b && c)
 ends-third a b c r e f g = rw (sym e, sym f) g
-
--- a record is well formed where all places pass as empty, all as used, and all nexuses pass: of two ALL nexuses both would own place 0
-pub tested : (s : State) (count : ℕ) → length (s .nexuses) ≡ count → 0 < count → wellFormed s ≡ (all emptyIsZero (s .sets) && each (usedGood count (s .nexuses)) (s .sets) && each (nexusGood (s .sets)) (s .nexuses))
-tested s count l h =
-    same-truth (wellFormed s) _
-    (λ t.
-    let w = well s t in
-    let at : (place : ℕ) → place < length (s .sets) → (emptyIsZero (setAt s place) ≡ true) × (usedGood count (s .nexuses) place (setAt s place) ≡ true) = λ place i. good-tested (s .nexuses) count place (setAt s place) (rw l at (w .sets place i)) (w .owners place i) in
-    both _ _
-    (both _ _
-    (each-of (λ k. emptyIsZero) noSet (s .sets) (λ place i. at place i .0))
-    (each-of (usedGood count (s .nexuses)) noSet (s .sets) (λ place i. at place i .1)))
-    (each-of (nexusGood (s .sets)) newNexus (s .nexuses) (w .nexuses)))
-    (λ t.
-    let all = each-holds _ (_ ∷ _ ∷ []) t in
-    let e = each-at (λ k. emptyIsZero) noSet (s .sets) (all .0) in
-    let u = each-at (usedGood count (s .nexuses)) noSet (s .sets) (all .1 .0) in
-    let n = each-at (nexusGood (s .sets)) newNexus (s .nexuses) (all .1 .1 .0) in
-    let owner : (i : ℕ) → i < length (s .nexuses) → hasAll (nexusAt s i) ≡ true → setAt s 0 .owner ≡ i = λ i m a. good-nexus (s .sets) i (nexusAt s i) (n i m) .all (eqb-true _ _ a) .1 in
-    well-formed s
-    (record {
-      sets = λ place i. rw l (tested-good (s .nexuses) count place (setAt s place) h (e place i) (u place i));
-      nexuses = n;
-      owners = λ place i. tested-owner (s .nexuses) count place (setAt s place) (u place i);
-      single = count-one (λ n. hasAll) newNexus (s .nexuses) (λ i j m k a b. sym (owner i m a) ∙ owner j k b);
-    }))
 
 -- ---- what is so of every place and nexus of a well-formed record
 

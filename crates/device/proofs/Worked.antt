@@ -1,9 +1,10 @@
 -- Records that are well formed, and records one field, one set or one nexus away from them that are not.
-use Prim.Native.Nat.{ℕ}
+use Prim.Native.Nat.{ℕ, zero, suc, _^_}
 use mathlib.Core.Path.{_≡_, refl}
 use mathlib.Core.Bool.{Bool, true, false, not, _&&_}
 use mathlib.Core.List.{List, [], _∷_, _++_}
-use lib.ListN.{set, replicate}
+use lib.Bits.{bitXor}
+use lib.ListN.{getD, set, replicate}
 use Rattle.arrays.specs.Arrays.{all}
 use Rattle.wire.specs.Buffers.{padded}
 use Rattle.kad.specs.Kad.{uMost, aMost, noKads}
@@ -14,6 +15,7 @@ use Rattle.parameters.specs.declared.Fields.{Fields}
 use Rattle.device.specs.Record.{State, established, emptySet, noMarks, newNexus, powerOn}
 use Rattle.device.specs.Selecting.{ownedPlace, selected}
 use Rattle.device.specs.WellFormed.{setGood, nexusGood, ownerIsLocal, wellFormed}
+use Rattle.device.specs.Words.{words, withWords, formed}
 use Rattle.parameters.specs.declared.Supplemental.{Supplemental}
 use Rattle.device.specs.Updates.{withMarks, withScope, withLock, withSaved, withLastLocal, withSupplemental, withCounter, withSets, withNexuses}
 use Rattle.device.specs.declared.Set.{Set}
@@ -107,8 +109,8 @@ withNexus n scope = withCounter 7 (withSets sets (withNexuses (set nexuses n (ne
 abbrev former : Set → State
 former s = withCounter 7 (withSets (set sets 0 s) (withNexuses (set nexuses 5 newNexus) (powerOn 0 0)))
 
-abbrev formed : List State
-formed =
+abbrev wellOnes : List State
+wellOnes =
     powerOn 16 5
     ∷ busy
     -- an empty place has any number
@@ -173,7 +175,7 @@ spoilt =
     ∷ []
 
 -- each of the first is well formed and none of the others
-pub table : (all wellFormed formed && all (λ s. not (wellFormed s)) spoilt) ≡ true
+pub table : (all wellFormed wellOnes && all (λ s. not (wellFormed s)) spoilt) ≡ true
 unfolding wellFormed setGood nexusGood ownerIsLocal powerOn
 table = refl
 
@@ -185,3 +187,34 @@ default = (refl, refl, refl, refl)
 pub uses : (selected busy 3 ∷ selected busy 4 ∷ selected busy 5 ∷ selected busy 6 ∷ []) ≡ 1 ∷ 2 ∷ 0 ∷ 0 ∷ []
 unfolding selected ownedPlace
 uses = refl
+
+-- ---- document 02, request 7
+
+-- "at power-on 16 ones for place 0, zeros elsewhere"
+pub power-on-words : words (powerOn 16 5) ≡ 65535 ∷ 0 ∷ 0 ∷ 0 ∷ 0 ∷ []
+unfolding words selected ownedPlace powerOn
+power-on-words = refl
+
+-- "one word whose bit n says that nexus n selects this place": places 1 and 2 serve nexuses 3 and 4, place 0 all others
+pub busy-words : words busy ≡ 65511 ∷ 8 ∷ 16 ∷ 0 ∷ 0 ∷ []
+unfolding words selected ownedPlace powerOn
+busy-words = refl
+
+-- of the former ALL nexus's set PUBLIC nexuses are served too; places 1 and 2 in the other order
+pub turned-words : words (withCounter 7 (withSets (set (set sets 1 (plain 4 localScope)) 2 (plain 3 localScope)) (withNexuses nexuses (powerOn 0 0)))) ≡ 65511 ∷ 16 ∷ 8 ∷ 0 ∷ 0 ∷ []
+unfolding words selected ownedPlace powerOn
+turned-words = refl
+
+-- one bit turned over: bit n of a place's word
+abbrev turnedBit : ℕ → ℕ → List ℕ → List ℕ
+turnedBit place n ws = set ws place (bitXor (getD ws place 0) (2 ^ n))
+
+-- the words of busy with each of so many bits turned over, place by place, are refused
+unfoldable pub wrongBits : ℕ → ℕ → Bool
+wrongBits place zero = true
+wrongBits place (suc n) = not (formed (record { state = busy; words = turnedBit place n (words busy) })) && wrongBits place n
+
+-- "a record where they differ is not well formed": each of the 64 bits of each word
+pub each-bit-counts : (formed (withWords busy) && wrongBits 0 64 && wrongBits 1 64 && wrongBits 2 64 && wrongBits 3 64 && wrongBits 4 64) ≡ true
+unfolding wrongBits formed words selected ownedPlace wellFormed setGood nexusGood ownerIsLocal powerOn
+each-bit-counts = refl

@@ -2,3 +2,4 @@ pub mod Record
 pub mod Updates
 pub mod Selecting
 pub mod WellFormed
+pub mod Words

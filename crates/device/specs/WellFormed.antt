@@ -65,10 +65,9 @@ nexusGood sets n nexus = nexusCodes nexus && localOwnsOne sets n nexus && allOwn
 unfoldable pub ownerIsLocal : List Nexus → ℕ → Set → Bool
 ownerIsLocal nexuses place set = eqb place 0 || empty set || eqb (getD nexuses (set .owner) newNexus .scope) localScope
 
--- the same two of a used place, told by one test (proofs/WellFormed: "tested")
-unfoldable pub usedGood : ℕ → List Nexus → ℕ → Set → Bool
-usedGood count nexuses place set =
-    empty set || (setCodes count set && setTails set && scopeFits place set && ownerIsLocal nexuses place set)
+-- what is asked of a used place by itself, by one test (proofs/WellFormed: "sets-tested")
+unfoldable pub usedFits : ℕ → ℕ → Set → Bool
+usedFits nexuses place set = empty set || setFits nexuses place set
 
 abbrev pub hasAll : Nexus → Bool
 hasAll nexus = eqb (nexus .scope) allScope

@@ -8,7 +8,7 @@ use parameters::SUPPLEMENTAL_MOST;
 ghost use mathlib.Core.Path.{_≡_};
 ghost use Rattle.arrays.specs.Arrays.{count};
 ghost use Rattle.device.specs.Selecting.{owns, orElse};
-ghost use Rattle.device.specs.WellFormed.{setCodes, setTails, scopeFits, setFits, setZero, emptyIsZero};
+ghost use Rattle.device.specs.WellFormed.{setCodes, setTails, scopeFits, usedFits, setZero, emptyIsZero};
 
 // The set is LOCAL and the nexus owns it.
 pub fn is_owned(set: Set, n: usize) -> bool
@@ -54,10 +54,13 @@ fn scope_fits(set: Set, place: usize) -> bool
     (set.scope == 0) | ((place == 0) & (set.scope == ALL)) | ((place != 0) & (set.scope == LOCAL))
 }
 
-// What is asked of the set in a used place by itself.
-pub fn set_fits(set: Set, place: usize, nexuses: usize) -> bool
-    ensures { λ r. ⌜ r ≡ setFits nexuses place set ⌝ }
+// What is asked of the set in a place, where the place is used.
+pub fn used_fits(set: Set, place: usize, nexuses: usize) -> bool
+    ensures { λ r. ⌜ r ≡ usedFits nexuses place set ⌝ }
 {
+    if set.scope == 0 {
+        return true;
+    }
     set_codes(set, nexuses) & set_tails(set) & scope_fits(set, place)
 }
 

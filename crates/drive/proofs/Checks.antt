@@ -16,7 +16,8 @@ use Rattle.device.specs.Record.{State, nexusAt}
 use Rattle.device.specs.WellFormed.{wellFormed}
 use Rattle.device.specs.declared.Nexus.{Nexus}
 use Rattle.drive.specs.Calls.{Call}
-use Rattle.drive.specs.Checks.{answerIf, firstOf, check1, heard, heardOf, checks, knownAnswer}
+use Rattle.drive.specs.declared.Command.{Command}
+use Rattle.drive.specs.Checks.{answerIf, firstOf, check1, heard, heardOf, checks, knownAnswer, commanded, commandedOf}
 
 -- where the first checks find a fault, theirs is the answer
 pub first-stops : (a b : List Answer) → isDone (firstOf a) ≡ false → firstOf (a ++ b) ≡ firstOf a
@@ -75,6 +76,11 @@ module _ (P : Answer → Type 0) (one : P NotWellFormed) (two : P NexusAbove) (t
 pub heard-found : (s : State) (n nexuses : ℕ) (nexus : Nexus) (a : Answer) → length (s .nexuses) ≡ nexuses → nexus ≡ nexusAt s n
     → a ≡ firstOf (heard nexuses n (nexus .marks)) → a ≡ firstOf (heardOf s n)
 heard-found s n nexuses nexus a l e h = h ∙ ap₂ (λ (k : ℕ) (x : Nexus). firstOf (heard k n (x .marks))) (sym l) e
+
+-- checks 2 to 6 of it
+pub commanded-found : (s : State) (command : Command) (nexuses : ℕ) (nexus : Nexus) (a : Answer) (supported : Bool) → length (s .nexuses) ≡ nexuses → nexus ≡ nexusAt s (command .nexus)
+    → a ≡ firstOf (commanded nexuses command (nexus .marks) supported) → a ≡ firstOf (commandedOf s command supported)
+commanded-found s command nexuses nexus a supported l e h = h ∙ ap₂ (λ (k : ℕ) (x : Nexus). firstOf (commanded k command (x .marks) supported)) (sym l) e
 
 -- a call's checks after the first: where the front of them finds a fault, theirs is the answer
 pub known-stops : (s : State) (call : Call) (front rest : List Answer) → checks s call ≡ front ++ rest → (a : Answer) → a ≡ firstOf front

@@ -7,7 +7,6 @@ use mathlib.Core.List.{List, [], _∷_, _++_}
 use borrow.Author.Tests.{leb-false}
 use lib.Dec.{eqb}
 use lib.ListN.{length, length-set, length-map}
-use lib.Seq.{set-getD}
 use Rattle.arrays.specs.Base.{if_then_else_}
 use Rattle.arrays.proofs.Base.{cases, clash, if-elim, if-false}
 use Rattle.arrays.proofs.Laws.{length-mapFrom}
@@ -19,14 +18,13 @@ use Rattle.answer.specs.declared.Change.the-variants.{Unchanged, AnotherCleared
 use Rattle.answer.proofs.Numbers.{done-is}
 use Rattle.parameters.specs.Codes.{disable, raw, decrypt}
 use Rattle.page.specs.declared.Page.{Page}
-use Rattle.device.specs.Record.{State, nexusAt, newNexus, powerOn}
+use Rattle.device.specs.Record.{State, nexusAt, powerOn}
 use Rattle.device.specs.Selecting.{selectedSet}
 use Rattle.device.specs.WellFormed.{wellFormed}
-use Rattle.device.specs.Updates.{withNexuses}
-use Rattle.device.specs.declared.Nexus.{Nexus}
 use Rattle.device.specs.declared.Set.{Set}
 use Rattle.marks.specs.Marks.{changes, flagged}
 use Rattle.marks.specs.Reset.{cleared}
+use Rattle.marks.proofs.Changes.{unchanged}
 use Rattle.marks.specs.declared.Actor.{Actor}
 use Rattle.marks.specs.declared.Actor.the-variants.{Nobody, Acting}
 use Rattle.places.specs.Actions.{noPlace, releases, releasedBy, taken}
@@ -78,11 +76,6 @@ unfolding answerWhere
 where-agrees s call = cases (wellFormed s) (λ w. known-agrees s call w ∙ sym (rw w)) (λ f. unformed-agrees s call f ∙ sym (rw f))
 
 -- ---- a refusal
-
--- a change of none is none
-pub unchanged : (s : State) (n : ℕ) → changes s n Unchanged ≡ s
-unfolding changes
-unchanged s n = ap (λ (l : List Nexus). withNexuses l s) (set-getD (s .nexuses) n newNexus)
 
 -- what a refusal does to the record is what its row says
 pub refusal-changes : (rule : Telling) (s : State) (n : ℕ) (change : Change) → carriedOut rule s (refusal (Acting n) change) ≡ changes s n change

@@ -1,6 +1,8 @@
 pub mod Checks
 pub mod Effects
 pub mod Events
+pub mod Records
+pub mod Serving
 pub mod Keeps
 pub mod Refusals
 pub mod Restoring

@@ -3,6 +3,8 @@ pub mod Restoring
 pub mod Checks
 pub mod Effects
 pub mod After
+pub mod Records
+pub mod Serving
 pub mod Runs
 pub mod Outcomes
 pub mod Claims

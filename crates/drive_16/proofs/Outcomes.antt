@@ -1,30 +1,32 @@
 -- What a call gives back, by what it is answered.
 -- Assumes nothing.
-use Prim.Native.Nat.{ℕ}
+use Prim.Native.Nat.{ℕ, _<_}
 use mathlib.Core.Path.{_≡_, refl, sym, ap, _∙_}
 use mathlib.Core.Bool.{Bool, true, false, not, _||_}
 use mathlib.Core.List.{List}
 use borrow.Author.Tests.{not-false}
 use lib.ListN.{length}
 use Rattle.arrays.specs.Arrays.{each}
-use Rattle.arrays.proofs.Base.{cases, if-true, if-false, or-other, or-left-false}
+use Rattle.arrays.proofs.Base.{cases, if-true, if-false, or-other, or-left-false, or-right-false}
 use Rattle.wire.specs.Buffers.{shown}
 use Rattle.answer.specs.Answers.{senseOf, changeOf, isDone}
 use Rattle.answer.specs.declared.Answer.{Answer}
-use Rattle.answer.specs.declared.Answer.the-variants.{Done, NotWellFormed, NoPlaceForLocal}
+use Rattle.answer.specs.declared.Answer.the-variants.{Done, NoPlaceForLocal}
 use Rattle.answer.specs.declared.Change.the-variants.{Registered}
 use Rattle.answer.proofs.Numbers.{done-is}
 use Rattle.device.specs.Record.{State}
-use Rattle.device.specs.WellFormed.{wellFormed}
+use Rattle.device.specs.Words.{Worded, keeping}
 use Rattle.device.specs.Selecting.{selected, selectedSet}
 use Rattle.marks.specs.Marks.{changes}
+use Rattle.marks.specs.Parts.{toldBy}
 use Rattle.marks.specs.declared.Actor.the-variants.{Nobody, Acting}
 use Rattle.drive.specs.Calls.{Call, securityIn, securityOut, write, read, happens, senderOf}
 use Rattle.places.specs.Actions.{noPlace, spared, releasedBy}
 use Rattle.places.specs.declared.Event.{Event}
-use Rattle.drive.specs.Checks.{check1, check10, recordCheck, pageChecked, answer, eventCheck, knownAnswer, checks}
-use Rattle.drive.specs.Effects.{takes, doing, refusal, effectBy, releasing}
-use Rattle.drive.specs.After.{byNumber, changedBy, carriedOut}
+use Rattle.drive.specs.Checks.{check10, pageChecked, eventCheck, knownAnswer, checks}
+use Rattle.drive.specs.Effects.{takes, doing, effectBy, releasing}
+use Rattle.drive.specs.After.{changedBy, actorOf}
+use Rattle.drive.specs.Records.{answerOf, heldAfter}
 use Rattle.drive.specs.Outcomes.{responsePage, inLength, inBuffer, decided, decision, decidedPlace, decidedIndex, readDecision}
 use Rattle.drive.specs.declared.Command.{Command}
 use Rattle.drive.specs.declared.Decision.the-variants.{Refused}
@@ -32,142 +34,162 @@ use Rattle.drive.specs.declared.Block.{Block}
 use Rattle.drive.specs.declared.ReadDecision.the-variants.{Withheld}
 use Rattle.drive.specs.Restoring.{restored}
 use Rattle.drive.proofs.Checks.{last-is}
-use Rattle.drive.proofs.Effects.{refusal-changes}
-use Rattle.drive.proofs.Events.{event-none}
-use Rattle.device_16.specs.Model.{device}
-use Rattle.drive_16.specs.Outcomes.{deviceBy, outcomeBy, inOutcomeBy, writeOutcomeBy, readOutcomeBy, refusedCall, refusedIn, refusedWrite, refusedRead, unchanged, pageOutcome}
+use Rattle.drive.proofs.Records.{held-refusal, held-is}
+use Rattle.device_16.specs.Model.{recordOf}
+use Rattle.drive_16.specs.Outcomes.{outcomeWith, inOutcomeWith, writeOutcomeWith, readOutcomeWith, outcome, inOutcome, writeOutcome, readOutcome, heldBy, outcomeBy, inOutcomeBy, writeOutcomeBy, readOutcomeBy, refusedRecord, refusedCall, refusedIn, refusedWrite, refusedRead, unchanged, pageOutcome}
 
--- a record that is not well formed is answered 1, by every call that takes one
-pub not-formed : (s : State) (call : Call) → recordCheck s call ≡ check1 s → wellFormed s ≡ false → NotWellFormed ≡ answer s call
-unfolding answer
-not-formed s call e f = sym (simp (e, f))
+-- ---- with the answer that is due, what the code makes is due
 
-module _ (s : State) (call : Call) (a : Answer) where
+pub out-due : (r : Worded) (call : Call) → 0 < length (r .state .sets) → outcomeBy r call (answerOf r call) ≡ outcome r call
+unfolding outcomeBy outcome
+out-due r call some = ap (λ (t : Worded). outcomeWith t (answerOf r call)) (held-is r call some)
+
+pub in-due : (r : Worded) (command : Command) → 0 < length (r .state .sets) → inOutcomeBy r command (answerOf r (securityIn command)) ≡ inOutcome r command
+unfolding inOutcomeBy inOutcome
+in-due r command some = ap (λ (t : Worded). inOutcomeWith t (r .state) command (answerOf r (securityIn command))) (held-is r (securityIn command) some)
+
+pub write-due : (r : Worded) (n : ℕ) (supported : Bool) → 0 < length (r .state .sets) → writeOutcomeBy r n supported (answerOf r (write n supported)) ≡ writeOutcome r n supported
+unfolding writeOutcomeBy writeOutcome
+write-due r n supported some = ap (λ (t : Worded). writeOutcomeWith t (r .state) n (answerOf r (write n supported))) (held-is r (write n supported) some)
+
+pub read-due : (r : Worded) (n : ℕ) (block : Block) → 0 < length (r .state .sets) → readOutcomeBy r n block (answerOf r (read n block)) ≡ readOutcome r n block
+unfolding readOutcomeBy readOutcome
+read-due r n block some = ap (λ (t : Worded). readOutcomeWith t (r .state) n block (answerOf r (read n block))) (held-is r (read n block) some)
+
+module _ (r : Worded) (call : Call) (a : Answer) where
   -- the record after a call that is carried out
-  device-done : isDone a ≡ true → device (carriedOut byNumber s (doing s call)) ≡ deviceBy s call a
+  record-done : isDone a ≡ true → heldAfter r (doing (r .state) call) ≡ heldBy r call a
   unfolding effectBy
-  device-done t = sym (simp t)
+  record-done t = sym (simp t)
 
   -- after one that is refused: what the row says
-  device-refused : (n : ℕ) → senderOf call ≡ Acting n → isDone a ≡ false → device (changes s n (changeOf a)) ≡ deviceBy s call a
+  record-refused : (n : ℕ) → senderOf call ≡ Acting n → isDone a ≡ false → refusedRecord r n a ≡ heldBy r call a
   unfolding effectBy
-  device-refused n e f = sym (simp (f, e) (ap device (refusal-changes byNumber s n (changeOf a))))
+  record-refused n e f = sym (simp (f, e) (sym (held-refusal r n (changeOf a))))
 
   -- nothing, where nobody sent it
-  device-kept : senderOf call ≡ Nobody → isDone a ≡ false → device s ≡ deviceBy s call a
-  unfolding effectBy carriedOut changedBy
-  device-kept e f = sym (simp (f, e))
+  record-kept : senderOf call ≡ Nobody → isDone a ≡ false → r ≡ heldBy r call a
+  unfolding effectBy heldAfter
+  record-kept e f = sym (simp (f, e))
 
   -- the outcome of a call that is refused
-  pub out-refused : (n : ℕ) → senderOf call ≡ Acting n → isDone a ≡ false → refusedCall s n a ≡ outcomeBy s call a
+  pub out-refused : (n : ℕ) → senderOf call ≡ Acting n → isDone a ≡ false → refusedCall r n a ≡ outcomeBy r call a
   unfolding outcomeBy
-  out-refused n e f = λ i. record { device = device-refused n e f i; answer = a; sense = senseOf a }
+  out-refused n e f = ap (λ (t : Worded). outcomeWith t a) (record-refused n e f)
 
-  pub out-kept : senderOf call ≡ Nobody → isDone a ≡ false → unchanged s a ≡ outcomeBy s call a
+  pub out-kept : senderOf call ≡ Nobody → isDone a ≡ false → unchanged r a ≡ outcomeBy r call a
   unfolding outcomeBy
-  out-kept e f = λ i. record { device = device-kept e f i; answer = a; sense = senseOf a }
+  out-kept e f = ap (λ (t : Worded). outcomeWith t a) (record-kept e f)
 
   -- of one that is carried out
-  pub out-done : isDone a ≡ true → record { device = device (carriedOut byNumber s (doing s call)); answer = a; sense = senseOf Done } ≡ outcomeBy s call a
+  pub out-done : isDone a ≡ true → record { after = recordOf (heldAfter r (doing (r .state) call)); answer = a; sense = senseOf Done } ≡ outcomeBy r call a
   unfolding outcomeBy
   out-done t =
       let e : Done ≡ a = sym (done-is a t) in
-      λ i. record { device = device-done t i; answer = a; sense = senseOf (e i) }
+      λ i. record { after = recordOf (record-done t i); answer = a; sense = senseOf (e i) }
 
 -- SECURITY PROTOCOL IN
-module _ (s : State) (command : Command) (a : Answer) where
+module _ (r : Worded) (command : Command) (a : Answer) where
   abbrev page : List ℕ
-  page = responsePage s (command .nexus) (command .code)
+  page = responsePage (r .state) (command .nexus) (command .code)
 
-  pub in-refused : isDone a ≡ false → refusedIn s (command .nexus) a ≡ inOutcomeBy s command a
+  pub in-refused : isDone a ≡ false → refusedIn r (command .nexus) a ≡ inOutcomeBy r command a
   unfolding inOutcomeBy
   in-refused f =
-      let none : 0 ≡ inLength s command a = sym (simp f) in
-      λ i. record { device = device-refused s (securityIn command) a (command .nexus) refl f i; answer = a; sense = senseOf a; length = none i }
+      let none : 0 ≡ inLength (r .state) command a = sym (simp f) in
+      λ i. record { after = recordOf (record-refused r (securityIn command) a (command .nexus) refl f i); answer = a; sense = senseOf a; length = none i }
 
-  pub in-kept : (buffer : List ℕ) → isDone a ≡ false → buffer ≡ inBuffer s command a buffer
+  pub in-kept : (buffer : List ℕ) → isDone a ≡ false → buffer ≡ inBuffer (r .state) command a buffer
   in-kept buffer f = sym (simp f)
 
-  pub in-done : isDone a ≡ true → record { device = device (changes s (command .nexus) Registered); answer = a; sense = senseOf Done; length = length page } ≡ inOutcomeBy s command a
-  unfolding inOutcomeBy carriedOut changedBy
+  pub in-done : isDone a ≡ true → record { after = recordOf (keeping (r .words) (changes (r .state) (command .nexus) Registered)); answer = a; sense = senseOf Done; length = length page } ≡ inOutcomeBy r command a
+  unfolding inOutcomeBy heldAfter changedBy
   in-done t =
       let e : Done ≡ a = sym (done-is a t) in
-      let told : length page ≡ inLength s command a = sym (simp t) in
-      λ i. record { device = device-done s (securityIn command) a t i; answer = a; sense = senseOf (e i); length = told i }
+      let told : length page ≡ inLength (r .state) command a = sym (simp t) in
+      λ i. record { after = recordOf (record-done r (securityIn command) a t i); answer = a; sense = senseOf (e i); length = told i }
 
-  pub in-shown : (buffer : List ℕ) → isDone a ≡ true → shown page buffer ≡ inBuffer s command a buffer
+  pub in-shown : (buffer : List ℕ) → isDone a ≡ true → shown page buffer ≡ inBuffer (r .state) command a buffer
   in-shown buffer t = sym (simp t)
 
 -- the write decision
-module _ (s : State) (n : ℕ) (supported : Bool) (a : Answer) where
-  pub write-refused : isDone a ≡ false → refusedWrite s n a ≡ writeOutcomeBy s n supported a
+module _ (r : Worded) (n : ℕ) (supported : Bool) (a : Answer) where
+  abbrev s : State
+  s = r .state
+
+  pub write-refused : isDone a ≡ false → refusedWrite r n a ≡ writeOutcomeBy r n supported a
   unfolding writeOutcomeBy
   write-refused f =
       let none : Refused ≡ decision s n a = sym (simp f) in
       let nowhere : 0 ≡ decidedPlace s n a = sym (simp f) in
       let without : 0 ≡ decidedIndex s n a = sym (simp f) in
-      λ i. record { device = device-refused s (write n supported) a n refl f i; answer = a; sense = senseOf a; decision = none i; place = nowhere i; index = without i }
+      λ i. record { after = recordOf (record-refused r (write n supported) a n refl f i); answer = a; sense = senseOf a; decision = none i; place = nowhere i; index = without i }
 
   pub write-done : isDone a ≡ true
-      → record { device = device s; answer = a; sense = senseOf Done; decision = decided (selectedSet s n .fields .encryption); place = selected s n; index = selectedSet s n .fields .index } ≡ writeOutcomeBy s n supported a
-  unfolding writeOutcomeBy carriedOut changedBy
+      → record { after = recordOf r; answer = a; sense = senseOf Done; decision = decided (selectedSet s n .fields .encryption); place = selected s n; index = selectedSet s n .fields .index } ≡ writeOutcomeBy r n supported a
+  unfolding writeOutcomeBy heldAfter
   write-done t =
       let e : Done ≡ a = sym (done-is a t) in
       let made : decided (selectedSet s n .fields .encryption) ≡ decision s n a = sym (simp t) in
       let where-it-is : selected s n ≡ decidedPlace s n a = sym (simp t) in
       let under : selectedSet s n .fields .index ≡ decidedIndex s n a = sym (simp t) in
-      λ i. record { device = device-done s (write n supported) a t i; answer = a; sense = senseOf (e i); decision = made i; place = where-it-is i; index = under i }
+      λ i. record { after = recordOf (record-done r (write n supported) a t i); answer = a; sense = senseOf (e i); decision = made i; place = where-it-is i; index = under i }
 
 -- the read decision
-module _ (s : State) (n : ℕ) (block : Block) (a : Answer) where
-  pub read-refused : isDone a ≡ false → refusedRead s n a ≡ readOutcomeBy s n block a
+module _ (r : Worded) (n : ℕ) (block : Block) (a : Answer) where
+  pub read-refused : isDone a ≡ false → refusedRead r n a ≡ readOutcomeBy r n block a
   unfolding readOutcomeBy
   read-refused f =
-      let none : Withheld ≡ readDecision s n block a = sym (simp f) in
-      let nowhere : 0 ≡ decidedPlace s n a = sym (simp f) in
-      λ i. record { device = device-refused s (read n block) a n refl f i; answer = a; sense = senseOf a; decision = none i; place = nowhere i }
+      let none : Withheld ≡ readDecision (r .state) n block a = sym (simp f) in
+      let nowhere : 0 ≡ decidedPlace (r .state) n a = sym (simp f) in
+      λ i. record { after = recordOf (record-refused r (read n block) a n refl f i); answer = a; sense = senseOf a; decision = none i; place = nowhere i }
 
   pub read-done : isDone a ≡ true
-      → record { device = device s; answer = a; sense = senseOf Done; decision = restored (selectedSet s n) block .decision; place = selected s n } ≡ readOutcomeBy s n block a
-  unfolding readOutcomeBy carriedOut changedBy
+      → record { after = recordOf r; answer = a; sense = senseOf Done; decision = restored (selectedSet (r .state) n) block .decision; place = selected (r .state) n } ≡ readOutcomeBy r n block a
+  unfolding readOutcomeBy heldAfter
   read-done t =
       let e : Done ≡ a = sym (done-is a t) in
-      let made : restored (selectedSet s n) block .decision ≡ readDecision s n block a = sym (simp t) in
-      let where-it-is : selected s n ≡ decidedPlace s n a = sym (simp t) in
-      λ i. record { device = device-done s (read n block) a t i; answer = a; sense = senseOf (e i); decision = made i; place = where-it-is i }
+      let made : restored (selectedSet (r .state) n) block .decision ≡ readDecision (r .state) n block a = sym (simp t) in
+      let where-it-is : selected (r .state) n ≡ decidedPlace (r .state) n a = sym (simp t) in
+      λ i. record { after = recordOf (record-done r (read n block) a t i); answer = a; sense = senseOf (e i); decision = made i; place = where-it-is i }
 
 -- a page that passed its check is answered by check 10
-pub page-decides : (s : State) (command : Command) (bytes : List ℕ) (a : Answer) → a ≡ check10 s (command .nexus) (pageChecked s (command .nexus) bytes .page)
-    → pageOutcome s (command .nexus) (pageChecked s (command .nexus) bytes .page) ≡ outcomeBy s (securityOut command bytes) a
-page-decides s command bytes a e =
+pub page-decides : (r : Worded) (command : Command) (bytes : List ℕ) (a : Answer) → a ≡ check10 (r .state) (command .nexus) (pageChecked (r .state) (command .nexus) bytes .page)
+    → pageOutcome r (command .nexus) (pageChecked (r .state) (command .nexus) bytes .page) ≡ outcomeBy r (securityOut command bytes) a
+page-decides r command bytes a e =
     let n = command .nexus in
-    let read = pageChecked s n bytes .page in
-    cases (noPlace s n read)
+    let read = pageChecked (r .state) n bytes .page in
+    cases (noPlace (r .state) n read)
     (λ t.
     let refusal : NoPlaceForLocal ≡ a = sym (e ∙ if-true _ NoPlaceForLocal Done t) in
-    if-true _ _ _ t ∙ ap (refusedCall s n) refusal ∙ out-refused s (securityOut command bytes) a n refl (ap isDone (sym refusal)))
+    if-true _ _ _ t ∙ ap (refusedCall r n) refusal ∙ out-refused r (securityOut command bytes) a n refl (ap isDone (sym refusal)))
     (λ f.
     let done : Done ≡ a = sym (e ∙ if-false _ NoPlaceForLocal Done f) in
     if-false _ _ _ f
-    ∙ ap (λ (x : Answer). record { device = device (carriedOut byNumber s (takes n read)); answer = x; sense = senseOf Done }) done
-    ∙ out-done s (securityOut command bytes) a (ap isDone (sym done)))
+    ∙ ap (λ (x : Answer). record { after = recordOf (heldAfter r (takes n read)); answer = x; sense = senseOf Done }) done
+    ∙ out-done r (securityOut command bytes) a (ap isDone (sym done)))
 
 -- an event that is refused, or releases nothing, leaves the record as it is
-pub event-kept : (s : State) (event : Event) (a : Answer) (done none : Bool) → done ≡ isDone a → none ≡ each (spared (releasedBy event)) (s .sets)
-    → (not done || none) ≡ true → unchanged s a ≡ outcomeBy s (happens event) a
-event-kept s event a done none d e h =
-    cases (isDone a)
-    (λ t.
-    let spares : each (spared (releasedBy event)) (s .sets) ≡ true = sym e ∙ or-other (not done) none h (ap not (d ∙ t)) in
-    let same : s ≡ carriedOut byNumber s (releasing event) = sym (event-none s event spares) in
-    let isZero : a ≡ Done = done-is a t in
-    (λ i. record { device = device (same i); answer = a; sense = senseOf (isZero i) }) ∙ out-done s (happens event) a t)
-    (λ f. out-kept s (happens event) a refl f)
+module _ (r : Worded) (event : Event) (a : Answer) (done none : Bool) (d : done ≡ isDone a) (e : none ≡ each (spared (releasedBy event)) (r .state .sets)) where
+  pub event-kept : (not done || none) ≡ true → unchanged r a ≡ outcomeBy r (happens event) a
+  unfolding heldAfter
+  event-kept h =
+      cases (isDone a)
+      (λ t.
+      let spares : each (spared (releasedBy event)) (r .state .sets) ≡ true = sym e ∙ or-other (not done) none h (ap not (d ∙ t)) in
+      let same : r ≡ heldAfter r (releasing event) = sym (if-true _ _ _ spares) in
+      let isZero : a ≡ Done = done-is a t in
+      (λ i. record { after = recordOf (same i); answer = a; sense = senseOf (isZero i) }) ∙ out-done r (happens event) a t)
+      (λ f. out-kept r (happens event) a refl f)
 
--- one that is carried out and releases something
-pub event-done : (s : State) (event : Event) (a : Answer) (done none : Bool) → done ≡ isDone a → (not done || none) ≡ false
-    → record { device = device (carriedOut byNumber s (releasing event)); answer = a; sense = senseOf Done } ≡ outcomeBy s (happens event) a
-event-done s event a done none d h = out-done s (happens event) a (sym d ∙ not-false done (or-left-false (not done) none h))
+  -- one that is carried out and releases something
+  pub event-done : (not done || none) ≡ false
+      → record { after = recordOf (toldBy (actorOf event) r (changedBy (r .state) (releasing event))); answer = a; sense = senseOf Done } ≡ outcomeBy r (happens event) a
+  unfolding heldAfter
+  event-done h =
+      let some : heldAfter r (releasing event) ≡ toldBy (actorOf event) r (changedBy (r .state) (releasing event)) = if-false _ _ _ (sym e ∙ or-right-false (not done) none h) in
+      ap (λ (t : Worded). record { after = recordOf t; answer = a; sense = senseOf Done }) (sym some)
+      ∙ out-done r (happens event) a (sym d ∙ not-false done (or-left-false (not done) none h))
 
 -- the check of an event's argument decides, where the record is known to be well formed
 pub event-answered : (s : State) (event : Event) (nexuses places : ℕ) (a : Answer) → length (s .nexuses) ≡ nexuses → length (s .sets) ≡ places

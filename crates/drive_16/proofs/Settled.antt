@@ -27,6 +27,8 @@ use Rattle.drive_16.proofs.unit_reset_known.Reads as unit-reset-known
 use Rattle.drive_16.proofs.unit_reset_known.Kinds as unit-reset-known-kinds
 use Rattle.drive_16.proofs.unit_reset.Reads as unit-reset
 use Rattle.drive_16.proofs.unit_reset.Kinds as unit-reset-kinds
+use Rattle.drive_16.proofs.serves.Reads as serves
+use Rattle.drive_16.proofs.serves.Kinds as serves-kinds
 use Rattle.drive_16.proofs.happen_known.Reads as happen-known
 use Rattle.drive_16.proofs.happen_known.Kinds as happen-known-kinds
 use Rattle.drive_16.proofs.happen.Reads as happen
@@ -73,3 +75,6 @@ happen-known-settles κs a x y s t p q = same p q
 
 pub happen-settles : SettlesAnswer 0 happen-kinds.ps happen-kinds.r happen.Post
 happen-settles κs a x y s t p q = same p q
+
+pub serves-settles : SettlesAnswer 0 serves-kinds.ps serves-kinds.r serves.Post
+serves-settles κs a x y s t p q = same p q

@@ -7,48 +7,38 @@ use Rattle.answer.specs.declared.Answer.{Answer}
 use Rattle.answer.specs.declared.Answer.the-variants.{Done, NoPlaceForLocal}
 use Rattle.page.specs.declared.Page.{Page}
 use Rattle.device.specs.Record.{State, powerOn}
+use Rattle.device.specs.Words.{Worded, withWords, keeping}
 use Rattle.marks.specs.Marks.{changes}
 use Rattle.places.specs.Actions.{noPlace}
 use Rattle.drive.specs.Calls.{Call, securityIn, write, read}
-use Rattle.drive.specs.Checks.{answer, knownAnswer}
+use Rattle.drive.specs.Checks.{knownAnswer}
 use Rattle.drive.specs.Effects.{takes, effectBy}
-use Rattle.drive.specs.After.{byNumber, carriedOut}
+use Rattle.drive.specs.Records.{answerOf, afterOf, heldAfter}
+use Rattle.drive.specs.Serving.{servedAnswer, servedWord}
 use Rattle.drive.specs.Outcomes.{inLength, decision, decidedPlace, decidedIndex, readDecision}
 use Rattle.drive.specs.declared.Command.{Command}
 use Rattle.drive.specs.declared.Decision.the-variants.{Refused}
 use Rattle.drive.specs.declared.Block.{Block}
 use Rattle.drive.specs.declared.ReadDecision.the-variants.{Withheld}
 use Rattle.sizes_16.specs.Sizes.{nexusCount, placeCount}
-use Rattle.device_16.specs.Model.{device}
-use Rattle.device_16.specs.declared.Device.{Device}
+use Rattle.device_16.specs.Model.{recordOf}
 use Rattle.drive_16.specs.declared.Outcome.{Outcome}
 use Rattle.drive_16.specs.declared.InOutcome.{InOutcome}
 use Rattle.drive_16.specs.declared.WriteOutcome.{WriteOutcome}
 use Rattle.drive_16.specs.declared.ReadOutcome.{ReadOutcome}
+use Rattle.drive_16.specs.declared.Served.{Served}
 
--- "Power-on takes no record, answers 0 and gives all zeros"
-abbrev pub poweredOn : Outcome
-poweredOn = record { device = device (powerOn nexusCount placeCount); answer = Done; sense = senseOf Done }
+-- ---- the form of each: with the record after it, t; s is the record before
 
--- the record after a call with that answer
-abbrev pub deviceBy : State → Call → Answer → Device
-deviceBy s call a = device (carriedOut byNumber s (effectBy s call a))
+abbrev pub outcomeWith : (t : Worded) → Answer → Outcome
+outcomeWith t a = record { after = recordOf t; answer = a; sense = senseOf a }
 
--- its outcome
-unfoldable pub outcomeBy : State → Call → Answer → Outcome
-outcomeBy s call a = record { device = deviceBy s call a; answer = a; sense = senseOf a }
+abbrev pub inOutcomeWith : (t : Worded) → State → Command → Answer → InOutcome
+inOutcomeWith t s command a = record { after = recordOf t; answer = a; sense = senseOf a; length = inLength s command a }
 
-unfoldable pub inOutcomeBy : State → Command → Answer → InOutcome
-inOutcomeBy s command a = record {
-  device = deviceBy s (securityIn command) a;
-  answer = a;
-  sense = senseOf a;
-  length = inLength s command a;
-}
-
-unfoldable pub writeOutcomeBy : State → ℕ → Bool → Answer → WriteOutcome
-writeOutcomeBy s n supported a = record {
-  device = deviceBy s (write n supported) a;
+abbrev pub writeOutcomeWith : (t : Worded) → State → ℕ → Answer → WriteOutcome
+writeOutcomeWith t s n a = record {
+  after = recordOf t;
   answer = a;
   sense = senseOf a;
   decision = decision s n a;
@@ -56,63 +46,91 @@ writeOutcomeBy s n supported a = record {
   index = decidedIndex s n a;
 }
 
-unfoldable pub readOutcomeBy : State → ℕ → Block → Answer → ReadOutcome
-readOutcomeBy s n block a = record {
-  device = deviceBy s (read n block) a;
+abbrev pub readOutcomeWith : (t : Worded) → State → ℕ → Block → Answer → ReadOutcome
+readOutcomeWith t s n block a = record {
+  after = recordOf t;
   answer = a;
   sense = senseOf a;
   decision = readDecision s n block a;
   place = decidedPlace s n a;
 }
 
-abbrev pub outcome : State → Call → Outcome
-outcome s call = outcomeBy s call (answer s call)
+-- ---- the calls
 
-abbrev pub inOutcome : State → Command → InOutcome
-inOutcome s command = inOutcomeBy s command (answer s (securityIn command))
+-- "Power-on takes no record, answers 0 and gives all zeros", and "at power-on 16 ones for place 0, zeros elsewhere"
+abbrev pub poweredOn : Outcome
+poweredOn = outcomeWith (withWords (powerOn nexusCount placeCount)) Done
 
-abbrev pub writeOutcome : State → ℕ → Bool → WriteOutcome
-writeOutcome s n supported = writeOutcomeBy s n supported (answer s (write n supported))
+unfoldable pub outcome : Worded → Call → Outcome
+outcome r call = outcomeWith (afterOf r call) (answerOf r call)
 
-abbrev pub readOutcome : State → ℕ → Block → ReadOutcome
-readOutcome s n block = readOutcomeBy s n block (answer s (read n block))
+unfoldable pub inOutcome : Worded → Command → InOutcome
+inOutcome r command = inOutcomeWith (afterOf r (securityIn command)) (r .state) command (answerOf r (securityIn command))
 
--- the same of a record that is known to be well formed: check 1 isn't made
-abbrev pub knownOutcome : State → Call → Outcome
-knownOutcome s call = outcomeBy s call (knownAnswer s call)
+unfoldable pub writeOutcome : Worded → ℕ → Bool → WriteOutcome
+writeOutcome r n supported = writeOutcomeWith (afterOf r (write n supported)) (r .state) n (answerOf r (write n supported))
 
-abbrev pub knownInOutcome : State → Command → InOutcome
-knownInOutcome s command = inOutcomeBy s command (knownAnswer s (securityIn command))
+unfoldable pub readOutcome : Worded → ℕ → Block → ReadOutcome
+readOutcome r n block = readOutcomeWith (afterOf r (read n block)) (r .state) n block (answerOf r (read n block))
 
-abbrev pub knownWriteOutcome : State → ℕ → Bool → WriteOutcome
-knownWriteOutcome s n supported = writeOutcomeBy s n supported (knownAnswer s (write n supported))
+-- "which hosts a set serves"
+unfoldable pub served : Worded → ℕ → Served
+served r place = let a = servedAnswer r place in record { answer = a; sense = senseOf a; word = servedWord r place a }
 
-abbrev pub knownReadOutcome : State → ℕ → Block → ReadOutcome
-knownReadOutcome s n block = readOutcomeBy s n block (knownAnswer s (read n block))
+-- ---- the same by the words that the record holds, as the parts after check 1 give it
+
+abbrev pub heldBy : Worded → Call → Answer → Worded
+heldBy r call a = heldAfter r (effectBy (r .state) call a)
+
+unfoldable pub outcomeBy : Worded → Call → Answer → Outcome
+outcomeBy r call a = outcomeWith (heldBy r call a) a
+
+unfoldable pub inOutcomeBy : Worded → Command → Answer → InOutcome
+inOutcomeBy r command a = inOutcomeWith (heldBy r (securityIn command) a) (r .state) command a
+
+unfoldable pub writeOutcomeBy : Worded → ℕ → Bool → Answer → WriteOutcome
+writeOutcomeBy r n supported a = writeOutcomeWith (heldBy r (write n supported) a) (r .state) n a
+
+unfoldable pub readOutcomeBy : Worded → ℕ → Block → Answer → ReadOutcome
+readOutcomeBy r n block a = readOutcomeWith (heldBy r (read n block) a) (r .state) n block a
+
+-- of a record that is known to be well formed: check 1 isn't made
+abbrev pub knownOutcome : Worded → Call → Outcome
+knownOutcome r call = outcomeBy r call (knownAnswer (r .state) call)
+
+abbrev pub knownInOutcome : Worded → Command → InOutcome
+knownInOutcome r command = inOutcomeBy r command (knownAnswer (r .state) (securityIn command))
+
+abbrev pub knownWriteOutcome : Worded → ℕ → Bool → WriteOutcome
+knownWriteOutcome r n supported = writeOutcomeBy r n supported (knownAnswer (r .state) (write n supported))
+
+abbrev pub knownReadOutcome : Worded → ℕ → Block → ReadOutcome
+knownReadOutcome r n block = readOutcomeBy r n block (knownAnswer (r .state) (read n block))
 
 -- ---- parts of these, as the code makes them
 
--- a refused call: what the row of its answer says of nexus n's marks
-abbrev pub refusedCall : State → ℕ → Answer → Outcome
-refusedCall s n a = record { device = device (changes s n (changeOf a)); answer = a; sense = senseOf a }
+-- the record with what the row of an answer says of nexus n's marks
+abbrev pub refusedRecord : Worded → ℕ → Answer → Worded
+refusedRecord r n a = keeping (r .words) (changes (r .state) n (changeOf a))
 
-abbrev pub refusedIn : State → ℕ → Answer → InOutcome
-refusedIn s n a = record { device = device (changes s n (changeOf a)); answer = a; sense = senseOf a; length = 0 }
+-- a refused call
+abbrev pub refusedCall : Worded → ℕ → Answer → Outcome
+refusedCall r n a = outcomeWith (refusedRecord r n a) a
 
-abbrev pub refusedWrite : State → ℕ → Answer → WriteOutcome
-refusedWrite s n a =
-    record { device = device (changes s n (changeOf a)); answer = a; sense = senseOf a; decision = Refused; place = 0; index = 0 }
+abbrev pub refusedIn : Worded → ℕ → Answer → InOutcome
+refusedIn r n a = record { after = recordOf (refusedRecord r n a); answer = a; sense = senseOf a; length = 0 }
 
-abbrev pub refusedRead : State → ℕ → Answer → ReadOutcome
-refusedRead s n a =
-    record { device = device (changes s n (changeOf a)); answer = a; sense = senseOf a; decision = Withheld; place = 0 }
+abbrev pub refusedWrite : Worded → ℕ → Answer → WriteOutcome
+refusedWrite r n a =
+    record { after = recordOf (refusedRecord r n a); answer = a; sense = senseOf a; decision = Refused; place = 0; index = 0 }
+
+abbrev pub refusedRead : Worded → ℕ → Answer → ReadOutcome
+refusedRead r n a = record { after = recordOf (refusedRecord r n a); answer = a; sense = senseOf a; decision = Withheld; place = 0 }
 
 -- one without a sender
-abbrev pub unchanged : State → Answer → Outcome
-unchanged s a = record { device = device s; answer = a; sense = senseOf a }
+abbrev pub unchanged : Worded → Answer → Outcome
+unchanged r a = outcomeWith r a
 
 -- a page that passed its check: "else answer 10", else it is taken
-abbrev pub pageOutcome : State → ℕ → Page → Outcome
-pageOutcome s n page =
-    if noPlace s n page then refusedCall s n NoPlaceForLocal
-    else record { device = device (carriedOut byNumber s (takes n page)); answer = Done; sense = senseOf Done }
+abbrev pub pageOutcome : Worded → ℕ → Page → Outcome
+pageOutcome r n page = if noPlace (r .state) n page then refusedCall r n NoPlaceForLocal else outcomeWith (heldAfter r (takes n page)) Done

@@ -1,9 +1,10 @@
-// The drive of this model: every call of document 01, and the read of document 02. The device goes in by value and comes back beside the answer.
-// Each call has a part after check 1, which a caller may use whose record is known to be well formed.
+// The drive of this model: every call of document 01, the read and the question of document 02. The record goes in by value and comes back
+// beside the answer. Each call has a part after check 1, which a caller may use whose record is known to be well formed.
 use answer::Answer;
 use answer::Change;
 use answer::Sense;
 use device_16::Device;
+use device_16::Record;
 use drive::Block;
 use drive::Command;
 use drive::Decision;
@@ -16,25 +17,27 @@ use sizes_16::NEXUSES;
 use sizes_16::PLACES;
 ghost use mathlib.Core.Path.{_≡_};
 ghost use Rattle.wire.specs.Buffers.{Shown};
-ghost use Rattle.device_16.specs.Model.{state, device};
+ghost use Rattle.device_16.specs.Model.{state, worded, recordOf};
 ghost use Rattle.status.specs.Status.{statusOf};
+ghost use Rattle.marks.specs.Parts.{toldBy};
 ghost use Rattle.drive.specs.Calls.{securityIn, securityOut, unitReset, happens};
-ghost use Rattle.drive.specs.Checks.{firstOf, commandedOf, pageChecked, answer, knownAnswer};
+ghost use Rattle.drive.specs.Checks.{pageChecked, knownAnswer};
 ghost use Rattle.drive.specs.Effects.{releasing};
-ghost use Rattle.drive.specs.After.{byNumber, carriedOut};
+ghost use Rattle.drive.specs.After.{actorOf, changedBy};
+ghost use Rattle.drive.specs.Records.{answerOf};
 ghost use Rattle.drive.specs.Outcomes.{responsePage, inBuffer};
-ghost use Rattle.drive_16.specs.Outcomes.{poweredOn, outcome, inOutcome, writeOutcome, readOutcome, knownOutcome, knownInOutcome, knownWriteOutcome, knownReadOutcome, refusedCall, refusedIn, refusedWrite, refusedRead, unchanged, pageOutcome};
+ghost use Rattle.drive_16.specs.Outcomes.{poweredOn, outcome, inOutcome, writeOutcome, readOutcome, served, knownOutcome, knownInOutcome, knownWriteOutcome, knownReadOutcome, refusedCall, refusedIn, refusedWrite, refusedRead, unchanged, pageOutcome};
 
-// The device stands first in each outcome: after a byte and its padding the compiler copies it twice more.
+// The record after the call stands first in each outcome: behind a byte and its padding the compiler copies it twice more.
 pub struct Outcome {
-    pub device: Device,
+    pub after: Record,
     pub answer: Answer,
     pub sense: Sense,
 }
 
 // length is the response page's full length, 0 where refused.
 pub struct InOutcome {
-    pub device: Device,
+    pub after: Record,
     pub answer: Answer,
     pub sense: Sense,
     pub length: usize,
@@ -42,7 +45,7 @@ pub struct InOutcome {
 
 // place and index are those of the set in use, 0 where refused.
 pub struct WriteOutcome {
-    pub device: Device,
+    pub after: Record,
     pub answer: Answer,
     pub sense: Sense,
     pub decision: Decision,
@@ -52,11 +55,18 @@ pub struct WriteOutcome {
 
 // place is that of the set in use, 0 where refused.
 pub struct ReadOutcome {
-    pub device: Device,
+    pub after: Record,
     pub answer: Answer,
     pub sense: Sense,
     pub decision: ReadDecision,
     pub place: usize,
+}
+
+// The word of the hosts that a set serves, 0 where refused.
+pub struct Served {
+    pub answer: Answer,
+    pub sense: Sense,
+    pub word: u64,
 }
 
 // Power-on takes no record, answers 0 and gives all zeros.
@@ -64,33 +74,24 @@ pub fn power_on() -> Outcome
     ensures { λ r. ⌜ r ≡ poweredOn ⌝ }
 {
     Outcome {
-        device: device_16::power_on(),
+        after: words_16::power_on(),
         answer: Answer::Done,
         sense: Sense::NONE,
     }
 }
 
 // What the row of its answer says of a refused call.
-fn refuse(d: Device, n: u8, answer: Answer) -> Outcome
-    ensures { λ r. ⌜ r ≡ refusedCall (state d) n answer ⌝ }
+fn refuse(r: Record, n: u8, answer: Answer) -> Outcome
+    ensures { λ a. ⌜ a ≡ refusedCall (worded r) n answer ⌝ }
 {
     let row = answer_code::row_of(answer);
     let sense = row.sense;
     let change = row.change;
     Outcome {
-        device: marks_16::change_marks(d, n, change),
+        after: marks_16::change_marks_in(r, n, change),
         answer,
         sense,
     }
-}
-
-// Checks 2 to 6.
-fn check_command(d: Device, command: Command, supported: bool) -> Answer
-    ensures { λ r. ⌜ r ≡ firstOf (commandedOf (state d) command supported) ⌝ }
-{
-    let nexus = device_16::nexus_at(d, command.nexus as usize);
-    let marks = nexus.marks;
-    drive_code::check_command(command, marks, NEXUSES, supported)
 }
 
 // The response page of a code.
@@ -116,14 +117,14 @@ fn status_of(d: Device, n: usize) -> status::Status
     status_code::status_with(nexus.scope, device_16::selected_set(d, n))
 }
 
-fn refuse_in(d: Device, n: u8, answer: Answer) -> InOutcome
-    ensures { λ r. ⌜ r ≡ refusedIn (state d) n answer ⌝ }
+fn refuse_in(r: Record, n: u8, answer: Answer) -> InOutcome
+    ensures { λ a. ⌜ a ≡ refusedIn (worded r) n answer ⌝ }
 {
-    let refusedCall = refuse(d, n, answer);
-    let after = refusedCall.device;
+    let refusedCall = refuse(r, n, answer);
+    let after = refusedCall.after;
     let sense = refusedCall.sense;
     InOutcome {
-        device: after,
+        after,
         answer,
         sense,
         length: 0,
@@ -131,16 +132,20 @@ fn refuse_in(d: Device, n: u8, answer: Answer) -> InOutcome
 }
 
 // SECURITY PROTOCOL IN, after check 1.
-pub fn security_in_known(d: Device, command: Command, buffer: &mut [u8]) -> InOutcome
-    ensures { λ r. ⌜ (r ≡ knownInOutcome (state d) command) × (now (buffer .exit) ≡ inBuffer (state d) command (knownAnswer (state d) (securityIn command)) (now (buffer .entry))) ⌝ }
+pub fn security_in_known(r: Record, command: Command, buffer: &mut [u8]) -> InOutcome
+    ensures { λ a. ⌜ (a ≡ knownInOutcome (worded r) command) × (now (buffer .exit) ≡ inBuffer (state (r .device)) command (knownAnswer (state (r .device)) (securityIn command)) (now (buffer .entry))) ⌝ }
 {
-    let answer = check_command(d, command, status_code::is_in_page(command.code));
+    let nexuses = r.device.nexuses;
+    let nexus = device_16::nexus_of(nexuses, command.nexus as usize);
+    let marks = nexus.marks;
+    let supported = status_code::is_in_page(command.code);
+    let answer = drive_code::check_command(command, marks, NEXUSES, supported);
     if !answer_code::is_done(answer) {
-        return refuse_in(d, command.nexus, answer);
+        return refuse_in(r, command.nexus, answer);
     }
-    let length = respond(d, command.nexus, command.code, buffer);
+    let length = respond(r.device, command.nexus, command.code, buffer);
     InOutcome {
-        device: marks_16::change_marks(d, command.nexus, Change::Registered),
+        after: marks_16::change_marks_in(r, command.nexus, Change::Registered),
         answer,
         sense: Sense::NONE,
         length,
@@ -148,13 +153,13 @@ pub fn security_in_known(d: Device, command: Command, buffer: &mut [u8]) -> InOu
 }
 
 // SECURITY PROTOCOL IN.
-pub fn security_in(d: Device, command: Command, buffer: &mut [u8]) -> InOutcome
-    ensures { λ r. ⌜ (r ≡ inOutcome (state d) command) × (now (buffer .exit) ≡ inBuffer (state d) command (answer (state d) (securityIn command)) (now (buffer .entry))) ⌝ }
+pub fn security_in(r: Record, command: Command, buffer: &mut [u8]) -> InOutcome
+    ensures { λ a. ⌜ (a ≡ inOutcome (worded r) command) × (now (buffer .exit) ≡ inBuffer (state (r .device)) command (answerOf (worded r) (securityIn command)) (now (buffer .entry))) ⌝ }
 {
-    if !device_16::well_formed(d) {
-        return refuse_in(d, command.nexus, Answer::NotWellFormed);
+    if !words_16::formed(r) {
+        return refuse_in(r, command.nexus, Answer::NotWellFormed);
     }
-    security_in_known(d, command, buffer)
+    security_in_known(r, command, buffer)
 }
 
 // Checks 7, 8 and 9, and the page read.
@@ -174,57 +179,61 @@ pub fn check_page(d: Device, n: u8, page: &[u8]) -> Checked
 }
 
 // A page that passed its check: check 10, and the page taken.
-fn accept(d: Device, n: u8, page: Page) -> Outcome
-    ensures { λ r. ⌜ r ≡ pageOutcome (state d) n page ⌝ }
+fn accept(r: Record, n: u8, page: Page) -> Outcome
+    ensures { λ a. ⌜ a ≡ pageOutcome (worded r) n page ⌝ }
 {
-    let room = places_16::room_asked(d, n, page);
+    let room = places_16::room_asked(r.device, n, page);
     if places_code::needs_place(page) & places_code::is_no_room(room) {
-        return refuse(d, n, Answer::NoPlaceForLocal);
+        return refuse(r, n, Answer::NoPlaceForLocal);
     }
-    let taken = places_16::take_page(d, n, page, room);
+    let taken = places_16::take_page(r.device, n, page, room);
     let registered = marks_16::change_marks(taken, n, Change::Registered);
     Outcome {
-        device: marks_16::tell(d, registered, Actor::Acting(n)),
+        after: marks_16::tell(r, registered, Actor::Acting(n)),
         answer: Answer::Done,
         sense: Sense::NONE,
     }
 }
 
 // SECURITY PROTOCOL OUT, after check 1.
-pub fn security_out_known(d: Device, command: Command, page: &[u8]) -> Outcome
-    ensures { λ r. ⌜ r ≡ knownOutcome (state d) (securityOut command (now (page .entry))) ⌝ }
+pub fn security_out_known(r: Record, command: Command, page: &[u8]) -> Outcome
+    ensures { λ a. ⌜ a ≡ knownOutcome (worded r) (securityOut command (now (page .entry))) ⌝ }
 {
-    let first = check_command(d, command, status_code::is_out_page(command.code));
+    let nexuses = r.device.nexuses;
+    let nexus = device_16::nexus_of(nexuses, command.nexus as usize);
+    let marks = nexus.marks;
+    let supported = status_code::is_out_page(command.code);
+    let first = drive_code::check_command(command, marks, NEXUSES, supported);
     if !answer_code::is_done(first) {
-        return refuse(d, command.nexus, first);
+        return refuse(r, command.nexus, first);
     }
-    let checked = check_page(d, command.nexus, page);
+    let checked = check_page(r.device, command.nexus, page);
     let answer = checked.answer;
     if !answer_code::is_done(answer) {
-        return refuse(d, command.nexus, answer);
+        return refuse(r, command.nexus, answer);
     }
     let read = checked.page;
-    accept(d, command.nexus, read)
+    accept(r, command.nexus, read)
 }
 
 // SECURITY PROTOCOL OUT.
-pub fn security_out(d: Device, command: Command, page: &[u8]) -> Outcome
-    ensures { λ r. ⌜ r ≡ outcome (state d) (securityOut command (now (page .entry))) ⌝ }
+pub fn security_out(r: Record, command: Command, page: &[u8]) -> Outcome
+    ensures { λ a. ⌜ a ≡ outcome (worded r) (securityOut command (now (page .entry))) ⌝ }
 {
-    if !device_16::well_formed(d) {
-        return refuse(d, command.nexus, Answer::NotWellFormed);
+    if !words_16::formed(r) {
+        return refuse(r, command.nexus, Answer::NotWellFormed);
     }
-    security_out_known(d, command, page)
+    security_out_known(r, command, page)
 }
 
-fn refuse_write(d: Device, n: u8, answer: Answer) -> WriteOutcome
-    ensures { λ r. ⌜ r ≡ refusedWrite (state d) n answer ⌝ }
+fn refuse_write(r: Record, n: u8, answer: Answer) -> WriteOutcome
+    ensures { λ a. ⌜ a ≡ refusedWrite (worded r) n answer ⌝ }
 {
-    let refusedCall = refuse(d, n, answer);
-    let after = refusedCall.device;
+    let refusedCall = refuse(r, n, answer);
+    let after = refusedCall.after;
     let sense = refusedCall.sense;
     WriteOutcome {
-        device: after,
+        after,
         answer,
         sense,
         decision: Decision::Refused,
@@ -234,24 +243,24 @@ fn refuse_write(d: Device, n: u8, answer: Answer) -> WriteOutcome
 }
 
 // The write decision, after check 1.
-pub fn write_known(d: Device, n: u8, supported: bool) -> WriteOutcome
-    ensures { λ r. ⌜ r ≡ knownWriteOutcome (state d) n supported ⌝ }
+pub fn write_known(r: Record, n: u8, supported: bool) -> WriteOutcome
+    ensures { λ a. ⌜ a ≡ knownWriteOutcome (worded r) n supported ⌝ }
 {
-    let nexus = device_16::nexus_at(d, n as usize);
+    let nexus = device_16::nexus_at(r.device, n as usize);
     let marks = nexus.marks;
     let heard = drive_code::hear(n, marks, NEXUSES);
     if !answer_code::is_done(heard) {
-        return refuse_write(d, n, heard);
+        return refuse_write(r, n, heard);
     }
-    let sets = d.sets;
+    let sets = r.device.sets;
     let place = device_16::place_of(nexus, n as usize, sets);
     let set = sets[place];
     let answer = drive_code::check_write(nexus, set, supported);
     if !answer_code::is_done(answer) {
-        return refuse_write(d, n, answer);
+        return refuse_write(r, n, answer);
     }
     WriteOutcome {
-        device: d,
+        after: r,
         answer,
         sense: Sense::NONE,
         decision: drive_code::decide(set.fields.encryption),
@@ -261,23 +270,23 @@ pub fn write_known(d: Device, n: u8, supported: bool) -> WriteOutcome
 }
 
 // The write decision.
-pub fn write(d: Device, n: u8, supported: bool) -> WriteOutcome
-    ensures { λ r. ⌜ r ≡ writeOutcome (state d) n supported ⌝ }
+pub fn write(r: Record, n: u8, supported: bool) -> WriteOutcome
+    ensures { λ a. ⌜ a ≡ writeOutcome (worded r) n supported ⌝ }
 {
-    if !device_16::well_formed(d) {
-        return refuse_write(d, n, Answer::NotWellFormed);
+    if !words_16::formed(r) {
+        return refuse_write(r, n, Answer::NotWellFormed);
     }
-    write_known(d, n, supported)
+    write_known(r, n, supported)
 }
 
-fn refuse_read(d: Device, n: u8, answer: Answer) -> ReadOutcome
-    ensures { λ r. ⌜ r ≡ refusedRead (state d) n answer ⌝ }
+fn refuse_read(r: Record, n: u8, answer: Answer) -> ReadOutcome
+    ensures { λ a. ⌜ a ≡ refusedRead (worded r) n answer ⌝ }
 {
-    let refusedCall = refuse(d, n, answer);
-    let after = refusedCall.device;
+    let refusedCall = refuse(r, n, answer);
+    let after = refusedCall.after;
     let sense = refusedCall.sense;
     ReadOutcome {
-        device: after,
+        after,
         answer,
         sense,
         decision: ReadDecision::Withheld,
@@ -286,25 +295,25 @@ fn refuse_read(d: Device, n: u8, answer: Answer) -> ReadOutcome
 }
 
 // The read decision, after check 1.
-pub fn read_known(d: Device, n: u8, block: Block) -> ReadOutcome
-    ensures { λ r. ⌜ r ≡ knownReadOutcome (state d) n block ⌝ }
+pub fn read_known(r: Record, n: u8, block: Block) -> ReadOutcome
+    ensures { λ a. ⌜ a ≡ knownReadOutcome (worded r) n block ⌝ }
 {
-    let nexus = device_16::nexus_at(d, n as usize);
+    let nexus = device_16::nexus_at(r.device, n as usize);
     let marks = nexus.marks;
     let heard = drive_code::hear(n, marks, NEXUSES);
     if !answer_code::is_done(heard) {
-        return refuse_read(d, n, heard);
+        return refuse_read(r, n, heard);
     }
-    let sets = d.sets;
+    let sets = r.device.sets;
     let place = device_16::place_of(nexus, n as usize, sets);
     let ruling = drive_code::restore(sets[place], block);
     let answer = ruling.answer;
     if !answer_code::is_done(answer) {
-        return refuse_read(d, n, answer);
+        return refuse_read(r, n, answer);
     }
     let decision = ruling.decision;
     ReadOutcome {
-        device: d,
+        after: r,
         answer,
         sense: Sense::NONE,
         decision,
@@ -313,86 +322,113 @@ pub fn read_known(d: Device, n: u8, block: Block) -> ReadOutcome
 }
 
 // The read decision.
-pub fn read(d: Device, n: u8, block: Block) -> ReadOutcome
-    ensures { λ r. ⌜ r ≡ readOutcome (state d) n block ⌝ }
+pub fn read(r: Record, n: u8, block: Block) -> ReadOutcome
+    ensures { λ a. ⌜ a ≡ readOutcome (worded r) n block ⌝ }
 {
-    if !device_16::well_formed(d) {
-        return refuse_read(d, n, Answer::NotWellFormed);
+    if !words_16::formed(r) {
+        return refuse_read(r, n, Answer::NotWellFormed);
     }
-    read_known(d, n, block)
+    read_known(r, n, block)
 }
 
 // A call that changes nothing, answered.
-fn unchanged(d: Device, answer: Answer) -> Outcome
-    ensures { λ r. ⌜ r ≡ unchanged (state d) answer ⌝ }
+fn unchanged(r: Record, answer: Answer) -> Outcome
+    ensures { λ a. ⌜ a ≡ unchanged (worded r) answer ⌝ }
 {
     Outcome {
-        device: d,
+        after: r,
         answer,
         sense: answer_code::sense_of(answer),
     }
 }
 
 // Logical unit reset, after check 1.
-pub fn unit_reset_known(d: Device) -> Outcome
-    ensures { λ r. ⌜ r ≡ knownOutcome (state d) unitReset ⌝ }
+pub fn unit_reset_known(r: Record) -> Outcome
+    ensures { λ a. ⌜ a ≡ knownOutcome (worded r) unitReset ⌝ }
 {
     Outcome {
-        device: marks_16::clear(d),
+        after: marks_16::clear(r),
         answer: Answer::Done,
         sense: Sense::NONE,
     }
 }
 
 // Logical unit reset clears registered marks and pending flags only.
-pub fn unit_reset(d: Device) -> Outcome
-    ensures { λ r. ⌜ r ≡ outcome (state d) unitReset ⌝ }
+pub fn unit_reset(r: Record) -> Outcome
+    ensures { λ a. ⌜ a ≡ outcome (worded r) unitReset ⌝ }
 {
-    if !device_16::well_formed(d) {
-        return unchanged(d, Answer::NotWellFormed);
+    if !words_16::formed(r) {
+        return unchanged(r, Answer::NotWellFormed);
     }
-    unit_reset_known(d)
+    unit_reset_known(r)
 }
 
 // What an event releases, and who is told.
-fn release(d: Device, event: Event) -> Device
-    ensures { λ r. ⌜ r ≡ device (carriedOut byNumber (state d) (releasing event)) ⌝ }
+fn release(r: Record, event: Event) -> Record
+    ensures { λ a. ⌜ a ≡ recordOf (toldBy (actorOf event) (worded r) (changedBy (state (r .device)) (releasing event))) ⌝ }
 {
-    let released = places_16::release_by(d, event);
-    marks_16::tell(d, released, drive_code::actor_of(event))
+    let released = places_16::release_by(r.device, event);
+    marks_16::tell(r, released, drive_code::actor_of(event))
 }
 
 // An event, after check 1. One that releases nothing leaves the record as it is.
-pub fn happen_known(d: Device, event: Event) -> Outcome
-    ensures { λ r. ⌜ r ≡ knownOutcome (state d) (happens event) ⌝ }
+pub fn happen_known(r: Record, event: Event) -> Outcome
+    ensures { λ a. ⌜ a ≡ knownOutcome (worded r) (happens event) ⌝ }
 {
     let answer = drive_code::check_event(event, NEXUSES, PLACES);
-    let sets = d.sets;
+    let sets = r.device.sets;
     if !answer_code::is_done(answer) | places_16::none_due(sets, event) {
-        return unchanged(d, answer);
+        return unchanged(r, answer);
     }
     Outcome {
-        device: release(d, event),
+        after: release(r, event),
         answer,
         sense: Sense::NONE,
     }
 }
 
 // An event that may release sets. The part after check 1 stands here again: called, it would cost a copy of the record.
-pub fn happen(d: Device, event: Event) -> Outcome
-    ensures { λ r. ⌜ r ≡ outcome (state d) (happens event) ⌝ }
+pub fn happen(r: Record, event: Event) -> Outcome
+    ensures { λ a. ⌜ a ≡ outcome (worded r) (happens event) ⌝ }
 {
-    if !device_16::well_formed(d) {
-        return unchanged(d, Answer::NotWellFormed);
+    if !words_16::formed(r) {
+        return unchanged(r, Answer::NotWellFormed);
     }
     let answer = drive_code::check_event(event, NEXUSES, PLACES);
-    let sets = d.sets;
+    let sets = r.device.sets;
     if !answer_code::is_done(answer) | places_16::none_due(sets, event) {
-        return unchanged(d, answer);
+        return unchanged(r, answer);
     }
     Outcome {
-        device: release(d, event),
+        after: release(r, event),
         answer,
         sense: Sense::NONE,
+    }
+}
+
+// Which hosts the set in a place serves: its word. The record stays as it is.
+pub fn serves(r: Record, place: u16) -> Served
+    ensures { λ a. ⌜ a ≡ served (worded r) place ⌝ }
+{
+    if !words_16::formed(r) {
+        return Served {
+            answer: Answer::NotWellFormed,
+            sense: Sense::NONE,
+            word: 0,
+        };
+    }
+    let at = place as usize;
+    if PLACES <= at {
+        return Served {
+            answer: Answer::PlaceAbove,
+            sense: Sense::NONE,
+            word: 0,
+        };
+    }
+    let words = r.words;
+    Served {
+        answer: Answer::Done,
+        sense: Sense::NONE,
+        word: words[at],
     }
 }

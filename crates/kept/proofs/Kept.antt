@@ -5,14 +5,14 @@ use mathlib.Core.Path.{_≡_, refl, sym, ap, subst, _∙_}
 use mathlib.Core.Bool.{Bool, true, false, not}
 use mathlib.Core.List.{List, [], _∷_}
 use native.Mathlib.Omega.{arith}
-use borrow.Author.Tests.{eqb-true, eqb-false, eq-eqb, ltb-true, ltb-false, lt-leb}
-use lib.Dec.{eqb, ltb, leb}
-use lib.ListN.{length, getD, set, drop, length-set, List·getD-eq-default}
-use lib.Seq.{sets, set-out, drop-drop}
+use borrow.Author.Tests.{eqb-true, eqb-false, eq-eqb, lt-leb}
+use lib.Dec.{eqb, leb}
+use lib.ListN.{length, getD, set, drop, length-set}
+use lib.Seq.{sets, drop-drop}
 use Rattle.arrays.specs.Base.{bit}
 use Rattle.arrays.specs.Arrays.{mapFrom, count, find}
 use Rattle.arrays.proofs.Base.{cases, clash, not-zero, and-left, and-right, if-elim, same-truth}
-use Rattle.arrays.proofs.Laws.{find-by, length-mapFrom, getD-mapFrom, getD-set-by, drop-sets}
+use Rattle.arrays.proofs.Laws.{find-by, length-mapFrom, getD-set-by, drop-sets}
 use Rattle.wire.specs.Buffers.{allZero}
 use Rattle.wire.proofs.Zeros.{all-zero-rest}
 use Rattle.kad.specs.Kad.{tailsGood}
@@ -33,6 +33,7 @@ use Rattle.device.specs.declared.Found.the-variants.{At, Nowhere}
 use Rattle.arrays.proofs.Counting.{count-none, count-some, find-counted}
 use Rattle.device.proofs.Selecting.{selected-shared, selected-local, own}
 use Rattle.parameters.proofs.Good.{ranges}
+use Rattle.device.proofs.Scopes.{mapped-scopes, set-scopes}
 use Rattle.device.proofs.WellFormed.{place-local, GoodSet, GoodNexus, set-good, established-good, used-within, nexus-at, owner-at, set-at, placeScope, scopes-kept}
 use Rattle.device.specs.Updates.{withScope, withSupplemental, withNexuses, atNexus}
 use Rattle.places.specs.Actions.{Action, release, establish, act, acts, releases, ownPlace, releaseFound, releaseOwn, emptyLocal, unlockedLocal, freeAt, evictingAt, room, establishIn, pageActions, nexusAfter, senderAfter, appended, supplemented, taken}
@@ -62,24 +63,11 @@ scopes-same s nexuses l e =
 
 -- nexuses made anew with their scopes kept leave the record as well formed as it was
 pub marks-kept : (f : ℕ → Nexus → Nexus) → ((i : ℕ) (x : Nexus) → f i x .scope ≡ x .scope) → (s : State) → wellFormed (withNexuses (mapFrom f 0 (s .nexuses)) s) ≡ wellFormed s
-marks-kept f e s =
-    scopes-same s (mapFrom f 0 (s .nexuses)) (length-mapFrom f 0 (s .nexuses))
-    (λ i. cases (ltb i (length (s .nexuses)))
-    (λ t. ap (λ (x : Nexus). x .scope) (getD-mapFrom f (s .nexuses) i newNexus newNexus (ltb-true _ _ t)) ∙ e i (nexusAt s i))
-    (λ t.
-    let past : length (s .nexuses) ≤ i = ltb-false _ _ t in
-    let past′ : length (mapFrom f 0 (s .nexuses)) ≤ i = omega (arith, past, length-mapFrom f 0 (s .nexuses)) in
-    ap (λ (x : Nexus). x .scope) (List·getD-eq-default (mapFrom f 0 (s .nexuses)) newNexus past′ ∙ sym (List·getD-eq-default (s .nexuses) newNexus past))))
+marks-kept f e s = scopes-same s (mapFrom f 0 (s .nexuses)) (length-mapFrom f 0 (s .nexuses)) (mapped-scopes f e s)
 
 -- and so does one nexus made anew with its scope kept
 pub mark-kept : (n : ℕ) (f : Nexus → Nexus) (s : State) → f (nexusAt s n) .scope ≡ nexusAt s n .scope → wellFormed (atNexus n f s) ≡ wellFormed s
-mark-kept n f s e =
-    scopes-same s (set (s .nexuses) n (f (nexusAt s n))) (length-set (s .nexuses) n (f (nexusAt s n)))
-    (λ i. cases (ltb n (length (s .nexuses)))
-    (λ t. getD-set-by (λ (x : Nexus). x .scope ≡ nexusAt s i .scope) (s .nexuses) n i (f (nexusAt s n)) newNexus (λ q. ltb-true _ _ t)
-    (λ q. e ∙ ap (λ (k : ℕ). nexusAt s k .scope) (sym q))
-    (λ q. refl))
-    (λ t. ap (λ (l : List Nexus). getD l i newNexus .scope) (set-out (s .nexuses) n (f (nexusAt s n)) (ltb-false _ _ t))))
+mark-kept n f s e = scopes-same s (set (s .nexuses) n (f (nexusAt s n))) (length-set (s .nexuses) n (f (nexusAt s n))) (set-scopes n (f (nexusAt s n)) s e)
 
 -- ---- what an accepted page brings
 

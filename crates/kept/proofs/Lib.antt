@@ -5,3 +5,4 @@ pub mod Calls
 pub mod Runs
 pub mod Brought
 pub mod Sent
+pub mod Records

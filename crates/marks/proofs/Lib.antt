@@ -1,2 +1,4 @@
+pub mod Changes
 pub mod Telling
+pub mod ByWords
 pub mod Worked

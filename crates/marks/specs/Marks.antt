@@ -1,6 +1,6 @@
 -- Document 01: the registered mark of a nexus and its two pending unit attention flags. What an answer changes of them, and who is told.
 use Prim.Native.Nat.{ℕ}
-use mathlib.Core.Bool.{Bool, false, not, _&&_, _||_}
+use mathlib.Core.Bool.{Bool, true, false, not, _&&_, _||_}
 use lib.Dec.{eqb}
 use Rattle.arrays.specs.Arrays.{mapFrom}
 use Rattle.answer.specs.declared.Change.{Change}
@@ -23,6 +23,13 @@ changed Unchanged marks = marks
 changed AnotherCleared marks = withAnother false marks
 changed VendorCleared marks = withVendor false marks
 changed Registered marks = registered marks
+
+-- a change that leaves these marks as they are
+abbrev pub keepsMarks : Marks → Change → Bool
+keepsMarks marks Unchanged = true
+keepsMarks marks AnotherCleared = false
+keepsMarks marks VendorCleared = false
+keepsMarks marks Registered = marks .registered
 
 -- the record with that change in a nexus's marks
 unfoldable pub changes : State → ℕ → Change → State

@@ -17,6 +17,8 @@ use Rattle.marks.specs.Reset.{unmarked}
 use Rattle.marks_code.proofs.clear_marks as clear-marks
 use Rattle.marks_code.proofs.remark.Reads as remark
 use Rattle.marks_code.proofs.remark.Kinds as remark-kinds
+use Rattle.marks_code.proofs.keeps_marks.Reads as keeps-marks
+use Rattle.marks_code.proofs.keeps_marks.Kinds as keeps-marks-kinds
 use Rattle.marks_code.proofs.is_asked.Reads as is-asked
 use Rattle.marks_code.proofs.is_asked.Kinds as is-asked-kinds
 use Rattle.marks_code.proofs.alert.Reads as alert
@@ -24,6 +26,9 @@ use Rattle.marks_code.proofs.alert.Kinds as alert-kinds
 
 pub remark-settles : SettlesAnswer 0 remark-kinds.ps remark-kinds.r remark.Post
 remark-settles κs a x y s t p q = same p q
+
+pub keeps-marks-settles : SettlesAnswer 0 keeps-marks-kinds.ps keeps-marks-kinds.r keeps-marks.Post
+keeps-marks-settles κs a x y s t p q = same p q
 
 pub is-asked-settles : SettlesAnswer 0 is-asked-kinds.ps is-asked-kinds.r is-asked.Post
 is-asked-settles κs a x y s t p q = same p q

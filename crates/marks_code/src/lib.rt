@@ -7,7 +7,7 @@ ghost use mathlib.Core.Path.{_≡_};
 ghost use mathlib.Core.Bool.{not, _&&_};
 ghost use mathlib.Core.List.{map};
 ghost use Rattle.device.specs.Updates.{registered, withAnother, withVendor};
-ghost use Rattle.marks.specs.Marks.{remarked, changed, isActor, alerted};
+ghost use Rattle.marks.specs.Marks.{remarked, changed, keepsMarks, isActor, alerted};
 ghost use Rattle.marks.specs.Reset.{unmarked};
 
 fn registered(marks: Marks) -> Marks
@@ -43,6 +43,18 @@ fn changed(marks: Marks, change: Change) -> Marks
         Change::AnotherCleared => with_another(marks, false),
         Change::VendorCleared => with_vendor(marks, false),
         Change::Registered => registered(marks),
+    }
+}
+
+// The change leaves these marks as they are.
+pub fn keeps_marks(marks: Marks, change: Change) -> bool
+    ensures { λ r. ⌜ r ≡ keepsMarks marks change ⌝ }
+{
+    match change {
+        Change::Unchanged => true,
+        Change::AnotherCleared => false,
+        Change::VendorCleared => false,
+        Change::Registered => marks.registered,
     }
 }
 

@@ -7,6 +7,8 @@ pub use Rattle.wire_code.proofs.Settled.{number-settles as wire-code-number-set
 pub use Rattle.wire_code.proofs.Settled.{word-at-settles as wire-code-word-at-settles}
 pub use Rattle.wire_code.proofs.Settled.{two-settles as wire-code-two-settles}
 pub use Rattle.wire_code.proofs.Settled.{four-settles as wire-code-four-settles}
+pub use Rattle.wire_code.proofs.Settled.{wide-settles as wire-code-wide-settles}
+pub use Rattle.wire_code.proofs.Settled.{eight-settles as wire-code-eight-settles}
 pub use Rattle.wire_code.proofs.Settled.{put-settles as wire-code-put-settles}
 pub use Rattle.wire_code.proofs.Settled.{show-settles as wire-code-show-settles}
 pub use Rattle.wire_code.proofs.Settled.{padded-32-settles as wire-code-padded-32-settles}
@@ -47,8 +49,12 @@ pub use Rattle.device.proofs.Settled.{established-settles as device-established
 -- crate device_code
 pub use Rattle.device_code.proofs.Settled.{is-owned-settles as device-code-is-owned-settles}
 pub use Rattle.device_code.proofs.Settled.{or-else-settles as device-code-or-else-settles}
-pub use Rattle.device_code.proofs.Settled.{set-fits-settles as device-code-set-fits-settles}
+pub use Rattle.device_code.proofs.Settled.{used-fits-settles as device-code-used-fits-settles}
 pub use Rattle.device_code.proofs.Settled.{empty-is-zero-settles as device-code-empty-is-zero-settles}
+-- crate words_code
+pub use Rattle.words_code.proofs.Settled.{hold-settles as words-code-hold-settles}
+pub use Rattle.words_code.proofs.Settled.{nexus-fits-settles as words-code-nexus-fits-settles}
+pub use Rattle.words_code.proofs.Settled.{changed-at-settles as words-code-changed-at-settles}
 -- crate status_code
 pub use Rattle.status_code.proofs.Settled.{is-in-page-settles as status-code-is-in-page-settles}
 pub use Rattle.status_code.proofs.Settled.{is-out-page-settles as status-code-is-out-page-settles}
@@ -60,6 +66,7 @@ pub use Rattle.status_code.proofs.Settled.{status-with-settles as status-code-s
 pub use Rattle.status_code.proofs.Settled.{read-status-settles as status-code-read-status-settles}
 -- crate marks_code
 pub use Rattle.marks_code.proofs.Settled.{remark-settles as marks-code-remark-settles}
+pub use Rattle.marks_code.proofs.Settled.{keeps-marks-settles as marks-code-keeps-marks-settles}
 pub use Rattle.marks_code.proofs.Settled.{is-asked-settles as marks-code-is-asked-settles}
 pub use Rattle.marks_code.proofs.Settled.{alert-settles as marks-code-alert-settles}
 pub use Rattle.marks_code.proofs.Settled.{clear-marks-settles as marks-code-clear-marks-settles}
@@ -92,6 +99,7 @@ pub use Rattle.record_code.proofs.Settled.{set-read-settles as record-code-set-
 pub use Rattle.record_code.proofs.Settled.{nexus-read-settles as record-code-nexus-read-settles}
 pub use Rattle.record_code.proofs.Settled.{set-at-settles as record-code-set-at-settles}
 pub use Rattle.record_code.proofs.Settled.{nexus-at-settles as record-code-nexus-at-settles}
+pub use Rattle.record_code.proofs.Settled.{word-at-settles as record-code-word-at-settles}
 -- crate calls_code
 pub use Rattle.calls_code.proofs.Settled.{command-of-settles as calls-code-command-of-settles}
 pub use Rattle.calls_code.proofs.Settled.{event-of-settles as calls-code-event-of-settles}

@@ -74,7 +74,7 @@ pub use Rattle.drive.proofs.Same.{same-record}
 -- A reply's head has the bytes that stand before the data, and tells its number, its sense and how many bytes of data follow.
 pub use Rattle.command.proofs.Replies.{head-size, head-number, head-sense, head-length}
 -- Every command: its 8 bytes read, and what it orders; every call's reply tells the drive's own answer and record, and its data.
-pub use Rattle.command.proofs.Ordered.{command-read, ordered, call-replied, data-replied, status-replied}
+pub use Rattle.command.proofs.Ordered.{command-read, ordered, call-replied, data-replied, status-replied, serves-replied}
 -- A batch's data are read back, and its reply tells its verdict, its buffer and its record; one whose events run past its data is unknown.
 pub use Rattle.command.proofs.Ordered.{batch-events, batch-pages, batch-replied, batch-past}
 -- The stored session of the stream, further commands and records taken and given: what is replied is what is printed there.
@@ -87,6 +87,22 @@ pub use Rattle.kept.proofs.Runs.{since-power-on, never-1}
 -- isn't stays as it is until power-on.
 pub use Rattle.drive.proofs.Effects.{where-agrees}
 pub use Rattle.kept.proofs.Calls.{formed-after, unformed-stays}
+-- Document 02, request 7: bit n of a place's word says that nexus n selects this place, and each nexus's bit is in one word; the ones over
+-- all places are as many as the nexuses, for any sizes; at power-on place 0 has them all.
+pub use Rattle.words.proofs.Words.{bit-selects, in-one, words-total, power-on-words, formed-is, is-formed}
+-- The test that check 1 makes of a record with words is the definition.
+pub use Rattle.words.proofs.Fitting.{formed-tested}
+-- Unit attentions given from the words are the flags of document 01's sentence, and the words are made anew.
+pub use Rattle.marks.proofs.ByWords.{same-flags, told-by-words}
+-- So every call's record is the one that document 01 gives, with its words, and a record that is not well formed stays as it is; after every
+-- call of every sequence each word is what the scopes say, and the ones are as many as the nexuses.
+pub use Rattle.drive.proofs.Records.{held-after, held-is}
+pub use Rattle.kept.proofs.Records.{formed-answer, formed-after-of, formed-then, unformed-record, words-after, words-since-power-on, ones-since-power-on}
+pub use Rattle.session.proofs.Records.{formed-answers, all-append, answers-of-append, answer-of-at}
+-- The question is answered by the word, a place above the last by 13, a record that is not well formed by 1.
+pub use Rattle.drive.proofs.Serving.{served-told, served-above, served-unformed}
+-- Words of records, and each bit of each word turned over.
+pub use Rattle.device.proofs.Worked.{busy-words, turned-words, each-bit-counts}
 -- What is found of IN, a write and a read by the sender and the set that it uses alone is its answer, and all that it changes; one that is
 -- found to change nothing leaves the record as it is.
 pub use Rattle.calls.proofs.Quietly.{quiet-still, in-found, write-found, read-found}
@@ -177,11 +193,11 @@ pub use Rattle.batch.proofs.Batched.{empty-batch}
 pub use Rattle.batch.proofs.InARow.{batches-join, batches-in-a-row}
 pub use Rattle.batch.proofs.Joined.{batches-moved}
 -- A batch equals the file made of it, sound or not.
-pub use Rattle.batch.proofs.Replays.{batch-as-file}
+pub use Rattle.batch.proofs.Replays.{batch-as-file, batch-as-session}
 -- From a record that isn't well formed each event answers 1 until a power-on, and from there on it goes as since power-on.
 pub use Rattle.batch.proofs.Unformed.{unformed-batch, mended-batch}
 -- Batches computed: 0, 1, 63, 64 and 65 events with buffers a byte short, just long enough and a byte longer, from a record that is well
--- formed and from one a bit away; and each rule.
+-- formed, from one a bit away, and from one whose words alone are a bit away; and each rule.
 pub use Rattle.batch.proofs.Worked.{formed-table, unformed-table, mended-table, rules-table, limits-worked, rules-worked, moved-computed}
 -- Document 02, request 8: 22 for a file that isn't sound, then 19 for more events than it has, then a reason.
 pub use Rattle.why.proofs.Reasons.{why-wrong, why-above, why-taken}

@@ -2,14 +2,20 @@
 -- crate device_16
 pub use Rattle.device_16.proofs.Settled.{power-on-settles as device-16-power-on-settles}
 pub use Rattle.device_16.proofs.Settled.{owned-place-settles as device-16-owned-place-settles}
+pub use Rattle.device_16.proofs.Settled.{nexus-of-settles as device-16-nexus-of-settles}
 pub use Rattle.device_16.proofs.Settled.{nexus-at-settles as device-16-nexus-at-settles}
 pub use Rattle.device_16.proofs.Settled.{place-of-settles as device-16-place-of-settles}
 pub use Rattle.device_16.proofs.Settled.{selected-settles as device-16-selected-settles}
 pub use Rattle.device_16.proofs.Settled.{numbers-settles as device-16-numbers-settles}
 pub use Rattle.device_16.proofs.Settled.{selected-set-settles as device-16-selected-set-settles}
-pub use Rattle.device_16.proofs.Settled.{well-formed-settles as device-16-well-formed-settles}
+-- crate words_16
+pub use Rattle.words_16.proofs.Settled.{words-of-settles as words-16-words-of-settles}
+pub use Rattle.words_16.proofs.Settled.{with-words-settles as words-16-with-words-settles}
+pub use Rattle.words_16.proofs.Settled.{power-on-settles as words-16-power-on-settles}
+pub use Rattle.words_16.proofs.Settled.{formed-settles as words-16-formed-settles}
 -- crate marks_16
 pub use Rattle.marks_16.proofs.Settled.{change-marks-settles as marks-16-change-marks-settles}
+pub use Rattle.marks_16.proofs.Settled.{change-marks-in-settles as marks-16-change-marks-in-settles}
 pub use Rattle.marks_16.proofs.Settled.{tell-settles as marks-16-tell-settles}
 pub use Rattle.marks_16.proofs.Settled.{clear-settles as marks-16-clear-settles}
 -- crate places_16
@@ -34,6 +40,7 @@ pub use Rattle.drive_16.proofs.Settled.{unit-reset-known-settles as drive-16-un
 pub use Rattle.drive_16.proofs.Settled.{unit-reset-settles as drive-16-unit-reset-settles}
 pub use Rattle.drive_16.proofs.Settled.{happen-known-settles as drive-16-happen-known-settles}
 pub use Rattle.drive_16.proofs.Settled.{happen-settles as drive-16-happen-settles}
+pub use Rattle.drive_16.proofs.Settled.{serves-settles as drive-16-serves-settles}
 -- crate record_16
 pub use Rattle.record_16.proofs.Settled.{record-bytes-settles as record-16-record-bytes-settles}
 pub use Rattle.record_16.proofs.Settled.{load-settles as record-16-load-settles}
@@ -44,6 +51,7 @@ pub use Rattle.reply_16.proofs.Settled.{unknown-settles as reply-16-unknown-set
 pub use Rattle.reply_16.proofs.Settled.{give-out-settles as reply-16-give-out-settles}
 pub use Rattle.reply_16.proofs.Settled.{give-write-settles as reply-16-give-write-settles}
 pub use Rattle.reply_16.proofs.Settled.{give-read-settles as reply-16-give-read-settles}
+pub use Rattle.reply_16.proofs.Settled.{give-served-settles as reply-16-give-served-settles}
 pub use Rattle.reply_16.proofs.Settled.{give-status-settles as reply-16-give-status-settles}
 pub use Rattle.reply_16.proofs.Settled.{take-record-settles as reply-16-take-record-settles}
 pub use Rattle.reply_16.proofs.Settled.{give-record-settles as reply-16-give-record-settles}

@@ -1,28 +1,29 @@
 -- A record, written and read, is the same; and bytes that are taken, written again, are the same bytes.
 -- Assumes nothing.
-use Prim.Native.Nat.{ℕ, _*_}
+use Prim.Native.Nat.{ℕ, _^_, _<_}
 use mathlib.Core.Path.{_≡_, refl, sym, ap, _∙_}
 use mathlib.Core.Bool.{true, false}
-use mathlib.Core.List.{List, [], _∷_, _++_, append-nil}
+use mathlib.Core.List.{List, [], _++_, append-nil}
 use borrow.Author.Tests.{eqb-true, eq-eqb}
 use lib.Dec.{eqb}
-use lib.ListN.{length, drop}
-use lib.Seq.{ext-getD, drop-at, drop-drop}
+use lib.ListN.{length}
+use lib.Seq.{ext-getD}
 use Rattle.arrays.specs.Arrays.{each}
 use Rattle.arrays.proofs.Base.{both, and-left, and-right, if-true, if-false}
 use Rattle.arrays.proofs.Laws.{each-at, each-of}
-use Rattle.wire.specs.Numbers.{byteAt, four}
-use Rattle.wire.proofs.Numbers.{number-four}
-use Rattle.device.specs.Record.{State, powerOn}
+use Rattle.wire.specs.Numbers.{byteAt, wide, eight}
+use Rattle.wire.proofs.Numbers.{number-four, wide-eight}
+use Rattle.device.specs.Record.{powerOn}
+use Rattle.device.specs.Words.{Worded, withWords}
 use Rattle.device.specs.declared.Set.{Set}
 use Rattle.device.specs.declared.Nexus.{Nexus}
 use Rattle.wire.specs.Buffers.{sameBytes}
-use Rattle.wire.specs.Parts.{joined, parts, Each}
-use Rattle.record.specs.Bytes.{setSize, nexusSize, nexusesFrom, setBytes, nexusBytes, recordBytes}
+use Rattle.wire.specs.Parts.{parts}
+use Rattle.record.specs.Bytes.{setSize, nexusSize, wordSize, setBytes, nexusBytes, recordBytes}
 use Rattle.record.specs.Reading.{setRead, nexusRead, recordRead}
 use Rattle.record.specs.Good.{goodBytes, recordTaken, SetFits, NexusFits, Fits}
-use Rattle.wire.proofs.Parts.{GivenBack, read-joined}
-use Rattle.record.proofs.Sizes.{set-length, nexus-length, sets-length}
+use Rattle.wire.proofs.Parts.{GivenBack, read-joined, each-same}
+use Rattle.record.proofs.Sizes.{set-length, nexus-length, word-length, setsPart, nexusesPart, wordsPart, from-nexuses, from-words}
 use Rattle.record.proofs.Back.{set-back, nexus-back}
 
 -- ---- the same bytes
@@ -38,43 +39,46 @@ same-true a b e =
 
 -- ---- written, then read
 
--- each set and nexus that fits is given back
-sets-back : (xs : List Set) → Each SetFits xs → Each (GivenBack setBytes setRead setSize) xs
-sets-back [] f = tt
-sets-back (x ∷ xs) f = ((set-length x (f .0), set-back x (f .0)), sets-back xs (f .1))
+-- each set, nexus and word that fits is given back
+set-given : (x : Set) → SetFits x → GivenBack setBytes setRead setSize x
+set-given x f = (set-length x f, set-back x f)
 
-nexuses-back : (xs : List Nexus) → Each NexusFits xs → Each (GivenBack nexusBytes nexusRead nexusSize) xs
-nexuses-back [] f = tt
-nexuses-back (x ∷ xs) f = ((nexus-length x, nexus-back x (f .0)), nexuses-back xs (f .1))
+nexus-given : (x : Nexus) → NexusFits x → GivenBack nexusBytes nexusRead nexusSize x
+nexus-given x f = (nexus-length x, nexus-back x f)
+
+word-given : (word : ℕ) → word < 2 ^ 64 → GivenBack eight wide wordSize word
+word-given word f = (word-length word, wide-eight word f)
 
 -- the same parts make the same record
-state-made : {c c′ : ℕ} {s s′ : List Set} {n n′ : List Nexus} → c ≡ c′ → s ≡ s′ → n ≡ n′ → _≡_ {A = State} (record { counter = c; sets = s; nexuses = n }) (record { counter = c′; sets = s′; nexuses = n′ })
-state-made p q r = rw (p, q, r) refl
+record-made : {c c′ : ℕ} {s s′ : List Set} {n n′ : List Nexus} {w w′ : List ℕ} → c ≡ c′ → s ≡ s′ → n ≡ n′ → w ≡ w′
+    → _≡_ {A = Worded} (record { state = record { counter = c; sets = s; nexuses = n }; words = w }) (record { state = record { counter = c′; sets = s′; nexuses = n′ }; words = w′ })
+record-made p q r s = rw (p, q, r, s) refl
 
 -- A record whose numbers and arrays fit, written and read, is the same.
-pub read-of-written : (nexuses places : ℕ) (s : State) → Fits nexuses places s → recordRead nexuses places (recordBytes s) ≡ s
+pub read-of-written : (nexuses places : ℕ) (r : Worded) → Fits nexuses places r → recordRead nexuses places (recordBytes r) ≡ r
 unfolding recordBytes recordRead
-read-of-written nexuses places s f =
-    let sets = joined setBytes (s .sets) in
-    let last = joined nexusBytes (s .nexuses) in
-    let size : length sets ≡ places * setSize = sets-length places (s .sets) (f .placesAll) (f .setsFit) in
-    let first : parts setRead setSize places (sets ++ last) ≡ s .sets = rw (f .placesAll) at (read-joined setBytes setRead setSize (s .sets) (sets-back (s .sets) (f .setsFit)) last) in
-    let past : drop (nexusesFrom places) (four (s .counter) ++ (sets ++ last)) ≡ last = sym (drop-drop (places * setSize) 4 (four (s .counter) ++ (sets ++ last))) ∙ drop-at sets last (places * setSize) size in
-    let second : parts nexusRead nexusSize nexuses last ≡ s .nexuses =
-    rw (f .nexusesAll, append-nil last) at (read-joined nexusBytes nexusRead nexusSize (s .nexuses) (nexuses-back (s .nexuses) (f .nexusesFit)) []) in
-    state-made (number-four (s .counter) (f .counter)) first (ap (parts nexusRead nexusSize nexuses) past ∙ second)
+read-of-written nexuses places r f =
+    let last = wordsPart r in
+    let others = nexusesPart r ++ last in
+    let first : parts setRead setSize places (setsPart r ++ others) ≡ r .state .sets =
+    rw (f .placesAll) at (read-joined setBytes setRead setSize (r .state .sets) (each-same set-given (r .state .sets) (f .setsFit)) others) in
+    let second : parts nexusRead nexusSize nexuses others ≡ r .state .nexuses =
+    rw (f .nexusesAll) at (read-joined nexusBytes nexusRead nexusSize (r .state .nexuses) (each-same nexus-given (r .state .nexuses) (f .nexusesFit)) last) in
+    let third : parts wide wordSize places last ≡ r .words =
+    rw (f .wordsAll, append-nil last) at (read-joined eight wide wordSize (r .words) (each-same word-given (r .words) (f .wordsFit)) []) in
+    record-made (number-four (r .state .counter) (f .counter)) first (ap (parts nexusRead nexusSize nexuses) (from-nexuses nexuses places r f) ∙ second) (ap (parts wide wordSize places) (from-words nexuses places r f) ∙ third)
 
 -- So its bytes are good,
-pub written-is-good : (nexuses places : ℕ) (s : State) → Fits nexuses places s → goodBytes nexuses places (recordBytes s) ≡ true
+pub written-is-good : (nexuses places : ℕ) (r : Worded) → Fits nexuses places r → goodBytes nexuses places (recordBytes r) ≡ true
 unfolding goodBytes
-written-is-good nexuses places s f = rw (read-of-written nexuses places s f) (same-self (recordBytes s))
+written-is-good nexuses places r f = rw (read-of-written nexuses places r f) (same-self (recordBytes r))
 
 -- and are taken as the record that they were written of.
-pub taken-of-written : (nexuses places : ℕ) (s : State) → Fits nexuses places s → recordTaken nexuses places (recordBytes s) ≡ s
+pub taken-of-written : (nexuses places : ℕ) (r : Worded) → Fits nexuses places r → recordTaken nexuses places (recordBytes r) ≡ r
 unfolding recordTaken
-taken-of-written nexuses places s f =
-    if-true (goodBytes nexuses places (recordBytes s)) (recordRead nexuses places (recordBytes s)) (powerOn nexuses places) (written-is-good nexuses places s f)
-    ∙ read-of-written nexuses places s f
+taken-of-written nexuses places r f =
+    if-true (goodBytes nexuses places (recordBytes r)) (recordRead nexuses places (recordBytes r)) (withWords (powerOn nexuses places)) (written-is-good nexuses places r f)
+    ∙ read-of-written nexuses places r f
 
 -- ---- read, then written
 
@@ -88,9 +92,9 @@ module _ (nexuses places : ℕ) (bytes : List ℕ) where
   pub written-of-taken : goodBytes nexuses places bytes ≡ true → recordBytes (recordTaken nexuses places bytes) ≡ bytes
   unfolding recordTaken
   written-of-taken g =
-      ap recordBytes (if-true (goodBytes nexuses places bytes) (recordRead nexuses places bytes) (powerOn nexuses places) g) ∙ written-of-read g
+      ap recordBytes (if-true (goodBytes nexuses places bytes) (recordRead nexuses places bytes) (withWords (powerOn nexuses places)) g) ∙ written-of-read g
 
   -- Bytes that are not good give the record of power-on.
-  pub refused : goodBytes nexuses places bytes ≡ false → recordTaken nexuses places bytes ≡ powerOn nexuses places
+  pub refused : goodBytes nexuses places bytes ≡ false → recordTaken nexuses places bytes ≡ withWords (powerOn nexuses places)
   unfolding recordTaken
-  refused g = if-false (goodBytes nexuses places bytes) (recordRead nexuses places bytes) (powerOn nexuses places) g
+  refused g = if-false (goodBytes nexuses places bytes) (recordRead nexuses places bytes) (withWords (powerOn nexuses places)) g

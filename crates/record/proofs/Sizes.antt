@@ -1,19 +1,21 @@
--- How many bytes there are.
+-- How many bytes there are, and where the parts of a record start.
 -- Assumes nothing.
 use Prim.Native.Nat.{ℕ, _*_}
-use mathlib.Core.Path.{_≡_, refl}
-use mathlib.Core.List.{List, [], _∷_, _++_}
+use mathlib.Core.Path.{_≡_, refl, sym, ap, _∙_}
+use mathlib.Core.List.{List, _∷_, _++_}
 use native.Mathlib.Omega.{arith}
-use lib.ListN.{length, length-append}
+use lib.ListN.{length, drop, length-append}
+use lib.Seq.{drop-drop}
+use Rattle.wire.specs.Numbers.{eight}
 use Rattle.kad.specs.Kad.{Sized}
 use Rattle.kad.specs.declared.Kads.{Kads}
-use Rattle.device.specs.Record.{State}
+use Rattle.device.specs.Words.{Worded}
 use Rattle.device.specs.declared.Set.{Set}
 use Rattle.device.specs.declared.Nexus.{Nexus}
 use Rattle.wire.specs.Parts.{joined, Each}
-use Rattle.record.specs.Bytes.{kadsSize, setSize, nexusSize, recordSize, kadsBytes, setBytes, nexusBytes, recordBytes}
+use Rattle.record.specs.Bytes.{counterSize, kadsSize, setSize, nexusSize, wordSize, nexusesFrom, wordsFrom, recordSize, kadsBytes, setBytes, nexusBytes, recordBytes}
 use Rattle.record.specs.Good.{SetFits, Fits}
-use Rattle.wire.proofs.Parts.{joined-length}
+use Rattle.wire.proofs.Parts.{section-length, section-past, each-same, each-all}
 
 pub kads-length : (k : Kads) → Sized k → length (kadsBytes k) ≡ kadsSize
 unfolding kadsBytes
@@ -30,24 +32,41 @@ pub nexus-length : (x : Nexus) → length (nexusBytes x) ≡ nexusSize
 unfolding nexusBytes
 nexus-length x = refl
 
--- each nexus has as many
-nexus-each : (xs : List Nexus) → Each (λ x. length (nexusBytes x) ≡ nexusSize) xs
-nexus-each [] = tt
-nexus-each (x ∷ xs) = (nexus-length x, nexus-each xs)
+pub word-length : (word : ℕ) → length (eight word) ≡ wordSize
+word-length word = refl
 
--- and each set
-set-each : (xs : List Set) → Each SetFits xs → Each (λ x. length (setBytes x) ≡ setSize) xs
-set-each [] f = tt
-set-each (x ∷ xs) f = (set-length x (f .0), set-each xs (f .1))
+-- a record's sets, nexuses and words, as bytes
+abbrev pub setsPart : Worded → List ℕ
+setsPart r = joined setBytes (r .state .sets)
 
--- all sets, and all nexuses, one after another
-pub sets-length : (places : ℕ) (xs : List Set) → length xs ≡ places → Each SetFits xs → length (joined setBytes xs) ≡ places * setSize
-sets-length places xs h f = rw h at (joined-length setBytes setSize xs (set-each xs f))
+abbrev pub nexusesPart : Worded → List ℕ
+nexusesPart r = joined nexusBytes (r .state .nexuses)
 
-pub nexuses-length : (nexuses : ℕ) (xs : List Nexus) → length xs ≡ nexuses → length (joined nexusBytes xs) ≡ nexuses * nexusSize
-nexuses-length nexuses xs h = rw h at (joined-length nexusBytes nexusSize xs (nexus-each xs))
+abbrev pub wordsPart : Worded → List ℕ
+wordsPart r = joined eight (r .words)
 
-pub record-length : (nexuses places : ℕ) (s : State) → Fits nexuses places s → length (recordBytes s) ≡ recordSize nexuses places
-unfolding recordBytes
-record-length nexuses places s f =
-    omega (arith, length-append (joined setBytes (s .sets)) (joined nexusBytes (s .nexuses)), sets-length places (s .sets) (f .placesAll) (f .setsFit), nexuses-length nexuses (s .nexuses) (f .nexusesAll))
+-- of one that fits, where they start, and how many bytes there are
+module _ (nexuses places : ℕ) (r : Worded) (f : Fits nexuses places r) where
+  sets-sized : Each (λ x. length (setBytes x) ≡ setSize) (r .state .sets)
+  sets-sized = each-same set-length (r .state .sets) (f .setsFit)
+
+  nexuses-sized : Each (λ x. length (nexusBytes x) ≡ nexusSize) (r .state .nexuses)
+  nexuses-sized = each-all nexus-length (r .state .nexuses)
+
+  words-sized : Each (λ x. length (eight x) ≡ wordSize) (r .words)
+  words-sized = each-all word-length (r .words)
+
+  pub from-nexuses : drop (nexusesFrom places) (recordBytes r) ≡ nexusesPart r ++ wordsPart r
+  unfolding recordBytes
+  from-nexuses =
+      sym (drop-drop (places * setSize) counterSize (recordBytes r)) ∙ section-past setBytes setSize places (r .state .sets) (f .placesAll) sets-sized (nexusesPart r ++ wordsPart r)
+
+  pub from-words : drop (wordsFrom nexuses places) (recordBytes r) ≡ wordsPart r
+  from-words =
+      sym (drop-drop (nexuses * nexusSize) (nexusesFrom places) (recordBytes r)) ∙ ap (drop (nexuses * nexusSize)) from-nexuses
+      ∙ section-past nexusBytes nexusSize nexuses (r .state .nexuses) (f .nexusesAll) nexuses-sized (wordsPart r)
+
+  pub record-length : length (recordBytes r) ≡ recordSize nexuses places
+  unfolding recordBytes
+  record-length =
+      omega (arith, length-append (setsPart r) (nexusesPart r ++ wordsPart r), length-append (nexusesPart r) (wordsPart r), section-length setBytes setSize places (r .state .sets) (f .placesAll) sets-sized, section-length nexusBytes nexusSize nexuses (r .state .nexuses) (f .nexusesAll) nexuses-sized, section-length eight wordSize places (r .words) (f .wordsAll) words-sized)

@@ -2,14 +2,14 @@
 use Prim.Native.Nat.{ℕ, _+_, _*_}
 use mathlib.Core.List.{List, [], _∷_, _++_}
 use Rattle.arrays.specs.Base.{bit}
-use Rattle.wire.specs.Numbers.{four}
+use Rattle.wire.specs.Numbers.{four, eight}
 use Rattle.kad.specs.declared.Kads.{Kads}
-use Rattle.device.specs.Record.{State}
+use Rattle.device.specs.Words.{Worded}
 use Rattle.device.specs.declared.Set.{Set}
 use Rattle.device.specs.declared.Nexus.{Nexus}
 use Rattle.wire.specs.Parts.{joined}
 
--- the bytes of the counter, of key-associated data, of a set, of a nexus
+-- the bytes of the counter, of key-associated data, of a set, of a nexus, of a word
 abbrev pub counterSize : ℕ
 counterSize = 4
 
@@ -21,6 +21,9 @@ setSize = 221
 
 abbrev pub nexusSize : ℕ
 nexusSize = 13
+
+abbrev pub wordSize : ℕ
+wordSize = 8
 
 -- "U-KAD length; U-KAD; A-KAD length; A-KAD"
 unfoldable pub kadsBytes : Kads → List ℕ
@@ -43,13 +46,17 @@ nexusBytes x =
     x .scope ∷ bit (x .lock)
     ∷ (four (x .saved) ++ four (x .lastLocal) ++ bit (x .marks .registered) ∷ bit (x .marks .another) ∷ bit (x .marks .vendor) ∷ [])
 
--- "the running counter; the sets in places 0 to ..; nexuses 0 to .."
-unfoldable pub recordBytes : State → List ℕ
-recordBytes s = four (s .counter) ++ (joined setBytes (s .sets) ++ joined nexusBytes (s .nexuses))
+-- "the running counter; the sets in places 0 to ..; nexuses 0 to ..", and at the end "8 bytes a place", the words of places 0 to ..
+unfoldable pub recordBytes : Worded → List ℕ
+recordBytes r =
+    four (r .state .counter) ++ (joined setBytes (r .state .sets) ++ (joined nexusBytes (r .state .nexuses) ++ joined eight (r .words)))
 
--- where the nexuses start, and the bytes of a record
+-- where the nexuses start, where the words start, and the bytes of a record
 abbrev pub nexusesFrom : ℕ → ℕ
 nexusesFrom places = counterSize + places * setSize
 
+abbrev pub wordsFrom : ℕ → ℕ → ℕ
+wordsFrom nexuses places = nexusesFrom places + nexuses * nexusSize
+
 abbrev pub recordSize : ℕ → ℕ → ℕ
-recordSize nexuses places = nexusesFrom places + nexuses * nexusSize
+recordSize nexuses places = wordsFrom nexuses places + places * wordSize

@@ -3,17 +3,17 @@
 use Prim.Native.Nat.{ℕ}
 use mathlib.Core.List.{List}
 use lib.ListN.{drop}
-use Rattle.wire.specs.Numbers.{byteAt, numberAt, flagAt}
+use Rattle.wire.specs.Numbers.{byteAt, numberAt, wide, flagAt}
 use Rattle.wire.specs.Buffers.{bytesAt}
 use Rattle.kad.specs.Kad.{uMost, aMost}
 use Rattle.kad.specs.declared.Kads.{Kads}
 use Rattle.parameters.specs.Fields.{keySize, supplementalSize}
 use Rattle.parameters.specs.declared.Fields.{Fields}
-use Rattle.device.specs.Record.{State}
+use Rattle.device.specs.Words.{Worded}
 use Rattle.device.specs.declared.Set.{Set}
 use Rattle.device.specs.declared.Nexus.{Nexus}
 use Rattle.wire.specs.Parts.{parts}
-use Rattle.record.specs.Bytes.{counterSize, setSize, nexusSize, nexusesFrom}
+use Rattle.record.specs.Bytes.{counterSize, setSize, nexusSize, wordSize, nexusesFrom, wordsFrom}
 
 -- the key-associated data in a part's first 46 bytes
 unfoldable pub kadsRead : List ℕ → Kads
@@ -58,9 +58,12 @@ nexusRead part = record {
 }
 
 -- the record of so many nexuses and places
-unfoldable pub recordRead : (nexuses places : ℕ) → List ℕ → State
+unfoldable pub recordRead : (nexuses places : ℕ) → List ℕ → Worded
 recordRead nexuses places bytes = record {
-  counter = numberAt bytes 0;
-  sets = parts setRead setSize places (drop counterSize bytes);
-  nexuses = parts nexusRead nexusSize nexuses (drop (nexusesFrom places) bytes);
+  state = record {
+    counter = numberAt bytes 0;
+    sets = parts setRead setSize places (drop counterSize bytes);
+    nexuses = parts nexusRead nexusSize nexuses (drop (nexusesFrom places) bytes);
+  };
+  words = parts wide wordSize places (drop (wordsFrom nexuses places) bytes);
 }

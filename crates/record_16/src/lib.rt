@@ -2,8 +2,10 @@
 use device::Nexus;
 use device::Set;
 use device_16::Device;
+use device_16::Record;
 use record_code::NEXUS_SIZE;
 use record_code::SET_SIZE;
+use record_code::WORD_SIZE;
 use sizes_16::NEXUSES;
 use sizes_16::PLACES;
 ghost use mathlib.Core.Path.{_≡_};
@@ -11,22 +13,25 @@ ghost use Prim.Native.Nat.{_*_};
 ghost use lib.ListN.{length, drop};
 ghost use lib.Seq.{sets};
 ghost use Rattle.wire.specs.Parts.{joined, parts};
-ghost use Rattle.record.specs.Bytes.{counterSize, setSize, nexusSize, nexusesFrom, setBytes, nexusBytes, recordBytes};
+ghost use Rattle.wire.specs.Numbers.{wide, eight};
+ghost use Rattle.record.specs.Bytes.{counterSize, setSize, nexusSize, wordSize, nexusesFrom, wordsFrom, setBytes, nexusBytes, recordBytes};
 ghost use Rattle.record.specs.Reading.{setRead, nexusRead, recordRead};
 ghost use Rattle.sizes_16.specs.Sizes.{nexusCount, placeCount};
-ghost use Rattle.device_16.specs.Model.{state, device};
+ghost use Rattle.device_16.specs.Model.{device, worded, recordOf};
 ghost use Rattle.record_16.specs.Loading.{loaded};
 
 const SETS_FROM: usize = 4;
 
 const NEXUSES_FROM: usize = SETS_FROM + PLACES * SET_SIZE;
 
-pub const RECORD_SIZE: usize = NEXUSES_FROM + NEXUSES * NEXUS_SIZE;
+const WORDS_FROM: usize = NEXUSES_FROM + NEXUSES * NEXUS_SIZE;
+
+pub const RECORD_SIZE: usize = WORDS_FROM + PLACES * WORD_SIZE;
 
 // What bytes give: whether they are a record, and the record; that of power-on where they are not.
 pub struct Loaded {
     pub good: bool,
-    pub device: Device,
+    pub taken: Record,
 }
 
 // Stores the bytes of each set, so many.
@@ -51,16 +56,28 @@ fn put_nexuses(buffer: &mut [u8], nexuses: [Nexus; NEXUSES])
     }
 }
 
-pub fn record_bytes(d: Device) -> [u8; RECORD_SIZE]
-    ensures { λ r. ⌜ r ≡ recordBytes (state d) ⌝ }
+// Stores the bytes of each word, so many.
+fn put_words(buffer: &mut [u8], words: [u64; PLACES])
+    ensures { λ _. ⌜ (now (buffer .exit) ≡ sets (now (buffer .entry)) (wordsFrom nexusCount placeCount) (joined eight words)) × (length (joined eight words) ≡ placeCount * wordSize) ⌝ }
 {
-    let counter = wire_code::four(d.counter);
-    let places = d.sets;
-    let nexuses = d.nexuses;
+    for place in 0..PLACES {
+        let bytes = wire_code::eight(words[place]);
+        wire_code::put(buffer, WORDS_FROM + place * WORD_SIZE, &bytes);
+    }
+}
+
+pub fn record_bytes(r: Record) -> [u8; RECORD_SIZE]
+    ensures { λ bytes. ⌜ bytes ≡ recordBytes (worded r) ⌝ }
+{
+    let counter = wire_code::four(r.device.counter);
+    let places = r.device.sets;
+    let nexuses = r.device.nexuses;
+    let words = r.words;
     let mut out = [0u8; RECORD_SIZE];
     wire_code::put(&mut out, 0, &counter);
     put_sets(&mut out, places);
     put_nexuses(&mut out, nexuses);
+    put_words(&mut out, words);
     out
 }
 
@@ -84,8 +101,18 @@ fn nexuses_of(bytes: &[u8]) -> [Nexus; NEXUSES]
     out
 }
 
+fn words_read(bytes: &[u8]) -> [u64; PLACES]
+    ensures { λ r. ⌜ r ≡ parts wide wordSize placeCount (drop (wordsFrom nexusCount placeCount) (now (bytes .entry))) ⌝ }
+{
+    let mut out = [0u64; PLACES];
+    for place in 0..PLACES {
+        out[place] = record_code::word_at(bytes, WORDS_FROM + place * WORD_SIZE);
+    }
+    out
+}
+
 fn device_of(bytes: &[u8]) -> Device
-    ensures { λ r. ⌜ r ≡ device (recordRead nexusCount placeCount (now (bytes .entry))) ⌝ }
+    ensures { λ r. ⌜ r ≡ device (recordRead nexusCount placeCount (now (bytes .entry)) .state) ⌝ }
 {
     let sets = sets_of(bytes);
     let nexuses = nexuses_of(bytes);
@@ -96,18 +123,29 @@ fn device_of(bytes: &[u8]) -> Device
     }
 }
 
-// Bytes are a record where the device that they give has the same bytes: their count is right, and each yes or no is 1 or 0.
+fn record_of(bytes: &[u8]) -> Record
+    ensures { λ r. ⌜ r ≡ recordOf (recordRead nexusCount placeCount (now (bytes .entry))) ⌝ }
+{
+    let device = device_of(bytes);
+    let words = words_read(bytes);
+    Record { device, words }
+}
+
+// Bytes are a record where the record that they give has the same bytes: their count is right, and each yes or no is 1 or 0.
 pub fn load(bytes: &[u8]) -> Loaded
     ensures { λ r. ⌜ r ≡ loaded (now (bytes .entry)) ⌝ }
 {
-    let device = device_of(bytes);
-    let again = record_bytes(device);
+    let record = record_of(bytes);
+    let again = record_bytes(record);
     if wire_code::is_same(bytes, &again) {
-        return Loaded { good: true, device };
+        return Loaded {
+            good: true,
+            taken: record,
+        };
     }
-    let new = device_16::power_on();
+    let new = words_16::power_on();
     Loaded {
         good: false,
-        device: new,
+        taken: new,
     }
 }

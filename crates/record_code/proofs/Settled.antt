@@ -16,6 +16,8 @@ use Rattle.record_code.proofs.set_at.Reads as set-at
 use Rattle.record_code.proofs.set_at.Kinds as set-at-kinds
 use Rattle.record_code.proofs.nexus_at.Reads as nexus-at
 use Rattle.record_code.proofs.nexus_at.Kinds as nexus-at-kinds
+use Rattle.record_code.proofs.word_at.Reads as word-at
+use Rattle.record_code.proofs.word_at.Kinds as word-at-kinds
 
 pub kads-bytes-settles : SettlesAnswer 0 kads-bytes-kinds.ps kads-bytes-kinds.r kads-bytes.Post
 kads-bytes-settles κs a x y s t p q = same p q
@@ -40,3 +42,6 @@ set-at-settles κs a x y s t p q = same p q
 
 pub nexus-at-settles : SettlesAnswer 1 nexus-at-kinds.ps nexus-at-kinds.r nexus-at.Post
 nexus-at-settles κs a x y s t p q = same p q
+
+pub word-at-settles : SettlesAnswer 1 word-at-kinds.ps word-at-kinds.r word-at.Post
+word-at-settles κs a x y s t p q = same p q

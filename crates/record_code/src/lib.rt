@@ -1,4 +1,4 @@
-// The bytes of a set, of a nexus and of key-associated data, in the order of docs/CONSOLE.md, and back; numbers are big-endian.
+// The bytes of a set, of a nexus and of key-associated data, in the order of docs/CONSOLE.md, and back, and a word's; numbers are big-endian.
 use device::Marks;
 use device::Nexus;
 use device::Set;
@@ -10,7 +10,7 @@ use parameters::Supplemental;
 ghost use mathlib.Core.Path.{_≡_};
 ghost use mathlib.Core.List.{_∷_};
 ghost use lib.ListN.{drop};
-ghost use Rattle.wire.specs.Numbers.{flagAt};
+ghost use Rattle.wire.specs.Numbers.{wide, flagAt};
 ghost use Rattle.record.specs.Bytes.{kadsBytes, setHead, setBytes, nexusBytes};
 ghost use Rattle.wire.specs.Buffers.{bytesAt};
 ghost use Rattle.record.specs.Reading.{kadsRead, fieldsRead, setRead, nexusRead};
@@ -20,6 +20,8 @@ pub const KADS_SIZE: usize = 46;
 pub const SET_SIZE: usize = 221;
 
 pub const NEXUS_SIZE: usize = 13;
+
+pub const WORD_SIZE: usize = 8;
 
 const HEAD_SIZE: usize = 14;
 
@@ -253,4 +255,14 @@ pub fn nexus_at(bytes: &[u8], at: usize) -> Nexus
         return nexus_read(&bytes[at..]);
     }
     Nexus::NEW
+}
+
+// The word that starts at an index.
+pub fn word_at(bytes: &[u8], at: usize) -> u64
+    ensures { λ r. ⌜ r ≡ wide (drop at (now (bytes .entry))) ⌝ }
+{
+    if at < bytes.len() {
+        return wire_code::wide(&bytes[at..]);
+    }
+    0
 }

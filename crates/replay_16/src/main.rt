@@ -40,8 +40,8 @@ fn write_answers(answers: [u8; ANSWERS_MOST], events: usize) {
 }
 
 fn write_record(ran: Ran) {
-    let device = ran.device;
-    let bytes = record_16::record_bytes(device);
+    let after = ran.after;
+    let bytes = record_16::record_bytes(after);
     write_out(&bytes);
 }
 

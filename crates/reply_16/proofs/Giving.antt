@@ -9,25 +9,26 @@ use lib.Dec.{eqb}
 use lib.ListN.{length}
 use lib.Seq.{sets}
 use Rattle.arrays.proofs.Base.{if-elim, if-true, if-false}
-use Rattle.wire.specs.Numbers.{two}
+use Rattle.wire.specs.Numbers.{two, eight}
 use Rattle.answer.specs.Answers.{rowOf, faultyByteOf, isDone}
 use Rattle.answer.specs.declared.Answer.{Answer}
 use Rattle.answer.specs.declared.Row.{Row}
 use Rattle.device.specs.Record.{State}
+use Rattle.device.specs.Words.{Worded}
 use Rattle.device.proofs.Selecting.{selected-within}
-use Rattle.device_16.specs.Model.{state, device}
+use Rattle.device_16.specs.Model.{worded, recordOf}
 use Rattle.drive.specs.declared.Command.{Command}
 use Rattle.drive.specs.declared.Block.{Block}
 use Rattle.drive.specs.Restoring.{readValueOf}
 use Rattle.drive.specs.Calls.{securityOut, write, read}
-use Rattle.drive.specs.Checks.{answer}
-use Rattle.drive.specs.After.{after}
+use Rattle.drive.specs.Records.{answerOf}
 use Rattle.drive.specs.Outcomes.{valueOf, decidedPlace}
-use Rattle.drive_16.specs.Outcomes.{outcomeBy, outcome, writeOutcomeBy, writeOutcome, readOutcomeBy, readOutcome}
+use Rattle.drive_16.specs.Outcomes.{outcome, writeOutcome, readOutcome, served}
 use Rattle.drive_16.specs.declared.Outcome.{Outcome}
 use Rattle.drive_16.specs.declared.WriteOutcome.{WriteOutcome}
 use Rattle.drive_16.specs.declared.ReadOutcome.{ReadOutcome}
-use Rattle.command.specs.Replies.{replyHeadSize, Replied, answered, whenDone, pointer, outReply, writeReply, readReply}
+use Rattle.drive_16.specs.declared.Served.{Served}
+use Rattle.command.specs.Replies.{replyHeadSize, Replied, answered, whenDone, pointer, outReply, writeReply, readReply, servesReply}
 use Rattle.reply_16.specs.Giving.{replyMost, replyOf, replyWith, Given}
 use Rattle.reply_16.specs.declared.Reply.{Reply}
 
@@ -40,38 +41,38 @@ pub given-as : {x y : Replied} {buffer after : List ℕ} {r : Reply} → x ≡ y
 given-as {x} {y} {buffer} {after} {r} e g = subst (λ (z : Replied). Given z buffer r after) e g
 
 -- a reply to an answer, with its data
-module _ (a : Answer) (gives : List ℕ) (s : State) where
+module _ (a : Answer) (gives : List ℕ) (w : Worded) where
   -- where there are none
-  pub stopped : (b : List ℕ) (r : Reply) → gives ≡ [] → r ≡ replyWith (device s) a 0 → Given (answered a gives s) b r b
-  stopped b r none u = kept (answered a gives s) b r none (u ∙ ap (λ (l : List ℕ). replyWith (device s) a (length l)) (sym none))
+  pub stopped : (b : List ℕ) (r : Reply) → gives ≡ [] → r ≡ replyWith (recordOf w) a 0 → Given (answered a gives w) b r b
+  stopped b r none u = kept (answered a gives w) b r none (u ∙ ap (λ (l : List ℕ). replyWith (recordOf w) a (length l)) (sym none))
 
   -- where they are these, which are stored
   pub stored : (bytes b : List ℕ) (count : ℕ) {end : List ℕ} {r : Reply} → gives ≡ bytes → count ≡ length bytes → replyHeadSize + count ≤ replyMost
-      → end ≡ sets b replyHeadSize bytes → r ≡ replyWith (device s) a count → Given (answered a gives s) b r end
+      → end ≡ sets b replyHeadSize bytes → r ≡ replyWith (recordOf w) a count → Given (answered a gives w) b r end
   stored bytes b count given size small t u = record {
-    tells = u ∙ ap (replyWith (device s) a) (size ∙ ap length (sym given));
+    tells = u ∙ ap (replyWith (recordOf w) a) (size ∙ ap length (sym given));
     holds = t ∙ ap (sets b replyHeadSize) (sym given);
     fits = omega (arith, size, ap length given);
   }
 
 -- the reply to a page, by the row of its answer
-module _ (a : Answer) (s : State) {row : Row} (p : row ≡ rowOf a) where
+module _ (a : Answer) (w : Worded) {row : Row} (p : row ≡ rowOf a) where
   -- not 8: no data
-  pub unpointed : (b : List ℕ) (r : Reply) → eqb (row .number) 8 ≡ false → r ≡ replyWith (device s) a 0 → Given (answered a (pointer a) s) b r b
-  unpointed b r f u = stopped a (pointer a) s b r (if-false _ _ _ (ap (λ (x : Row). eqb (x .number) 8) (sym p) ∙ f)) u
+  pub unpointed : (b : List ℕ) (r : Reply) → eqb (row .number) 8 ≡ false → r ≡ replyWith (recordOf w) a 0 → Given (answered a (pointer a) w) b r b
+  unpointed b r f u = stopped a (pointer a) w b r (if-false _ _ _ (ap (λ (x : Row). eqb (x .number) 8) (sym p) ∙ f)) u
 
   -- 8: the number of the faulty byte
   pub pointed : (b : List ℕ) {bytes end : List ℕ} {r : Reply} → eqb (row .number) 8 ≡ true → bytes ≡ two (row .faultyByte) → end ≡ sets b replyHeadSize bytes
-      → r ≡ replyWith (device s) a 2 → Given (answered a (pointer a) s) b r end
+      → r ≡ replyWith (recordOf w) a 2 → Given (answered a (pointer a) w) b r end
   pointed b {bytes} t e v u =
       let told : two (faultyByteOf a) ≡ bytes = sym (e ∙ ap (λ (x : Row). two (x .faultyByte)) p) in
-      stored a (pointer a) s bytes b 2 (if-true _ _ _ (ap (λ (x : Row). eqb (x .number) 8) (sym p) ∙ t) ∙ told) (ap length told) (omega arith) v u
+      stored a (pointer a) w bytes b 2 (if-true _ _ _ (ap (λ (x : Row). eqb (x .number) 8) (sym p) ∙ t) ∙ told) (ap length told) (omega arith) v u
 
 -- a page that is sent
-pub out-given : (s : State) (command : Command) (page : List ℕ) {o : Outcome} → o ≡ outcome s (securityOut command page)
-    → answered (o .answer) (pointer (o .answer)) (state (o .device)) ≡ outReply s command page
-unfolding outReply outcomeBy
-out-given s command page p = rw p refl
+pub out-given : (w : Worded) (command : Command) (page : List ℕ) {o : Outcome} → o ≡ outcome w (securityOut command page)
+    → answered (o .answer) (pointer (o .answer)) (worded (o .after)) ≡ outReply w command page
+unfolding outReply outcome
+out-given w command page p = rw p refl
 
 -- the place that is told is a byte
 place-byte : (s : State) (n : ℕ) (a : Answer) → 0 < length (s .sets) → length (s .sets) ≤ 256 → decidedPlace s n a % 256 ≡ decidedPlace s n a
@@ -79,15 +80,21 @@ place-byte s n a some few =
     if-elim (λ (p : ℕ). p % 256 ≡ p) (isDone a) (λ t. omega (arith, selected-within s n some)) (λ f. refl)
 
 -- the write decision: value, place and index
-pub write-given : (s : State) (n : ℕ) (supported : Bool) {o : WriteOutcome} {value : ℕ} → 0 < length (s .sets) → length (s .sets) ≤ 256
-    → o ≡ writeOutcome s n supported → value ≡ valueOf (o .decision)
-    → answered (o .answer) (whenDone (o .answer) (value ∷ o .place % 256 ∷ o .index ∷ [])) (state (o .device)) ≡ writeReply s n supported
-unfolding writeReply writeOutcomeBy
-write-given s n supported some few p v = rw (v, p, place-byte s n (answer s (write n supported)) some few) refl
+pub write-given : (w : Worded) (n : ℕ) (supported : Bool) {o : WriteOutcome} {value : ℕ} → 0 < length (w .state .sets) → length (w .state .sets) ≤ 256
+    → o ≡ writeOutcome w n supported → value ≡ valueOf (o .decision)
+    → answered (o .answer) (whenDone (o .answer) (value ∷ o .place % 256 ∷ o .index ∷ [])) (worded (o .after)) ≡ writeReply w n supported
+unfolding writeReply writeOutcome
+write-given w n supported some few p v = rw (v, p, place-byte (w .state) n (answerOf w (write n supported)) some few) refl
 
 -- the read decision: value and place
-pub read-given : (s : State) (n : ℕ) (block : Block) {o : ReadOutcome} {value : ℕ} → 0 < length (s .sets) → length (s .sets) ≤ 256
-    → o ≡ readOutcome s n block → value ≡ readValueOf (o .decision)
-    → answered (o .answer) (whenDone (o .answer) (value ∷ o .place % 256 ∷ [])) (state (o .device)) ≡ readReply s n block
-unfolding readReply readOutcomeBy
-read-given s n block some few p v = rw (v, p, place-byte s n (answer s (read n block)) some few) refl
+pub read-given : (w : Worded) (n : ℕ) (block : Block) {o : ReadOutcome} {value : ℕ} → 0 < length (w .state .sets) → length (w .state .sets) ≤ 256
+    → o ≡ readOutcome w n block → value ≡ readValueOf (o .decision)
+    → answered (o .answer) (whenDone (o .answer) (value ∷ o .place % 256 ∷ [])) (worded (o .after)) ≡ readReply w n block
+unfolding readReply readOutcome
+read-given w n block some few p v = rw (v, p, place-byte (w .state) n (answerOf w (read n block)) some few) refl
+
+-- the question: the place's word
+pub serves-given : (w : Worded) (place : ℕ) {o : Served} {bytes : List ℕ} → o ≡ served w place → bytes ≡ eight (o .word)
+    → answered (o .answer) (whenDone (o .answer) bytes) w ≡ servesReply w place
+unfolding servesReply served
+serves-given w place p e = rw (e, p) refl

@@ -15,6 +15,8 @@ use Rattle.reply_16.proofs.give_write.Reads as give-write
 use Rattle.reply_16.proofs.give_write.Kinds as give-write-kinds
 use Rattle.reply_16.proofs.give_read.Reads as give-read
 use Rattle.reply_16.proofs.give_read.Kinds as give-read-kinds
+use Rattle.reply_16.proofs.give_served.Reads as give-served
+use Rattle.reply_16.proofs.give_served.Kinds as give-served-kinds
 use Rattle.reply_16.proofs.give_status.Reads as give-status
 use Rattle.reply_16.proofs.give_status.Kinds as give-status-kinds
 use Rattle.reply_16.proofs.take_record.Reads as take-record
@@ -39,6 +41,9 @@ give-write-settles κs a x y s t p q = both-same (p .tells) (p .holds) (q .tells
 
 pub give-read-settles : Settles 1 give-read-kinds.ps give-read-kinds.r (List ℕ) (λ κs s. now (s .1 .1 .1 .0)) give-read.Post
 give-read-settles κs a x y s t p q = both-same (p .tells) (p .holds) (q .tells) (q .holds)
+
+pub give-served-settles : Settles 1 give-served-kinds.ps give-served-kinds.r (List ℕ) (λ κs s. now (s .1 .1 .0)) give-served.Post
+give-served-settles κs a x y s t p q = both-same (p .tells) (p .holds) (q .tells) (q .holds)
 
 pub give-status-settles : Settles 2 give-status-kinds.ps give-status-kinds.r (List ℕ) (λ κs s. now (s .1 .1 .0)) give-status.Post
 give-status-settles κs a x y s t p q = both-same (p .tells) (p .holds) (q .tells) (q .holds)

@@ -10,8 +10,8 @@ use Rattle.arrays.proofs.Base.{cases, if-true, if-false}
 use Rattle.wire.proofs.Stores.{sets-append}
 use Rattle.answer.specs.Answers.{isDone}
 use Rattle.answer.specs.declared.Answer.the-variants.{Done, NotWellFormed}
-use Rattle.device.specs.Record.{State}
-use Rattle.device_16.specs.Model.{device}
+use Rattle.device.specs.Words.{Worded}
+use Rattle.device_16.specs.Model.{recordOf}
 use Rattle.status.specs.Reading.{readStatus}
 use Rattle.status.specs.declared.StatusRead.{StatusRead}
 use Rattle.sizes_16.specs.Sizes.{nexusCount, placeCount}
@@ -26,55 +26,55 @@ use Rattle.reply_16.specs.declared.Reply.{Reply}
 use Rattle.reply_16.proofs.Giving.{given-as, stored}
 
 -- the status reader
-module _ (s : State) (page : List ℕ) {read : StatusRead} (p : read ≡ readStatus page) where
+module _ (w : Worded) (page : List ℕ) {read : StatusRead} (p : read ≡ readStatus page) where
   -- refused: the reply to a page
-  pub status-refused : {b end : List ℕ} {r : Reply} → isDone (read .answer) ≡ false → Given (answered (read .answer) (pointer (read .answer)) s) b r end
-      → Given (statusReply s page) b r end
+  pub status-refused : {b end : List ℕ} {r : Reply} → isDone (read .answer) ≡ false → Given (answered (read .answer) (pointer (read .answer)) w) b r end
+      → Given (statusReply w page) b r end
   unfolding statusReply
   status-refused f g =
       given-as
-      (ap (λ (x : StatusRead). answered (x .answer) (pointer (x .answer)) s) p
-      ∙ ap (λ (l : List ℕ). answered (readStatus page .answer) l s) (sym (if-false _ _ _ (sym (ap (λ (x : StatusRead). isDone (x .answer)) p) ∙ f)))) g
+      (ap (λ (x : StatusRead). answered (x .answer) (pointer (x .answer)) w) p
+      ∙ ap (λ (l : List ℕ). answered (readStatus page .answer) l w) (sym (if-false _ _ _ (sym (ap (λ (x : StatusRead). isDone (x .answer)) p) ∙ f)))) g
 
   -- read: the values are stored, then the key-associated data
   pub status-given : (b : List ℕ) (at count : ℕ) {head rest first end : List ℕ} {r : Reply} → isDone (read .answer) ≡ true
       → head ≡ valuesHead (read .status) → rest ≡ kadsBytes (read .status .kads) → replyHeadSize + length head ≡ at → length head + length rest ≡ count → replyHeadSize + count ≤ replyMost
-      → first ≡ sets b replyHeadSize head → end ≡ sets first at rest → r ≡ replyWith (device s) (read .answer) count → Given (statusReply s page) b r end
+      → first ≡ sets b replyHeadSize head → end ≡ sets first at rest → r ≡ replyWith (recordOf w) (read .answer) count → Given (statusReply w page) b r end
   unfolding statusReply
   status-given b at count {head} {rest} {first} {end} {r} d h k size total small t v u =
       let values = valuesBytes (readStatus page .status) in
       let bytes : head ++ rest ≡ values = (λ i. h i ++ k i) ∙ ap (λ (x : StatusRead). valuesBytes (x .status)) p in
       let counted : count ≡ length values = sym total ∙ sym (length-append head rest) ∙ ap length bytes in
-      stored (readStatus page .answer) _ s values b count (if-true _ _ _ (sym (ap (λ (x : StatusRead). isDone (x .answer)) p) ∙ d)) counted small
+      stored (readStatus page .answer) _ w values b count (if-true _ _ _ (sym (ap (λ (x : StatusRead). isDone (x .answer)) p) ∙ d)) counted small
       (v ∙ ap (λ (x : List ℕ). sets x at rest) t ∙ ap (λ (j : ℕ). sets (sets b replyHeadSize head) j rest) (sym size)
       ∙ sets-append b replyHeadSize head rest ∙ ap (sets b replyHeadSize) bytes)
-      (u ∙ ap (λ (x : StatusRead). replyWith (device s) (x .answer) count) p)
+      (u ∙ ap (λ (x : StatusRead). replyWith (recordOf w) (x .answer) count) p)
 
 -- a record taken
-module _ (s : State) (bytes : List ℕ) {l : Loaded} (nexuses : length (s .nexuses) ≡ nexusCount) (places : length (s .sets) ≡ placeCount) (p : l ≡ loaded bytes) where
+module _ (w : Worded) (bytes : List ℕ) {l : Loaded} (nexuses : length (w .state .nexuses) ≡ nexusCount) (places : length (w .state .sets) ≡ placeCount) (p : l ≡ loaded bytes) where
   -- the test, by the record's own sizes
-  tested : (b : Bool) → l .good ≡ b → goodBytes (length (s .nexuses)) (length (s .sets)) bytes ≡ b
+  tested : (b : Bool) → l .good ≡ b → goodBytes (length (w .state .nexuses)) (length (w .state .sets)) bytes ≡ b
   tested b e = rw (nexuses, places) (sym (ap (λ (x : Loaded). x .good) p) ∙ e)
 
-  pub take-refused : (r : Reply) → l .good ≡ false → r ≡ replyWith (device s) NotWellFormed 0 → r ≡ replyOf (takeReply s bytes)
+  pub take-refused : (r : Reply) → l .good ≡ false → r ≡ replyWith (recordOf w) NotWellFormed 0 → r ≡ replyOf (takeReply w bytes)
   unfolding takeReply
-  take-refused r f u = u ∙ ap replyOf (sym (if-false _ _ (answered NotWellFormed [] s) (tested false f)))
+  take-refused r f u = u ∙ ap replyOf (sym (if-false _ _ (answered NotWellFormed [] w) (tested false f)))
 
-  pub take-done : (r : Reply) → l .good ≡ true → r ≡ replyWith (l .device) Done 0 → r ≡ replyOf (takeReply s bytes)
+  pub take-done : (r : Reply) → l .good ≡ true → r ≡ replyWith (l .taken) Done 0 → r ≡ replyOf (takeReply w bytes)
   unfolding takeReply recordTaken
   take-done r t u =
       let is-good : goodBytes nexusCount placeCount bytes ≡ true = sym (ap (λ (x : Loaded). x .good) p) ∙ t in
-      let same : recordRead nexusCount placeCount bytes ≡ recordRead (length (s .nexuses)) (length (s .sets)) bytes = rw (nexuses, places) refl in
-      u ∙ ap (λ (x : Loaded). replyWith (x .device) Done 0) p
-      ∙ ap (λ (x : State). replyWith (device x) Done 0) (if-true _ _ _ is-good ∙ same)
-      ∙ ap replyOf (sym (if-true _ _ (answered NotWellFormed [] s) (tested true t)))
+      let same : recordRead nexusCount placeCount bytes ≡ recordRead (length (w .state .nexuses)) (length (w .state .sets)) bytes = rw (nexuses, places) refl in
+      u ∙ ap (λ (x : Loaded). replyWith (x .taken) Done 0) p
+      ∙ ap (λ (x : Worded). replyWith (recordOf x) Done 0) (if-true _ _ _ is-good ∙ same)
+      ∙ ap replyOf (sym (if-true _ _ (answered NotWellFormed [] w) (tested true t)))
 
 -- neither way has data
-pub taken-none : (s : State) (bytes : List ℕ) → takeReply s bytes .bytes ≡ []
+pub taken-none : (w : Worded) (bytes : List ℕ) → takeReply w bytes .bytes ≡ []
 unfolding takeReply
-taken-none s bytes = cases (goodBytes (length (s .nexuses)) (length (s .sets)) bytes) (λ t. rw t refl) (λ f. rw f refl)
+taken-none w bytes = cases (goodBytes (length (w .state .nexuses)) (length (w .state .sets)) bytes) (λ t. rw t refl) (λ f. rw f refl)
 
 -- the record given
-pub record-given : (s : State) {bytes : List ℕ} → bytes ≡ recordBytes s → answered Done (whenDone Done bytes) s ≡ giveReply s
+pub record-given : (w : Worded) {bytes : List ℕ} → bytes ≡ recordBytes w → answered Done (whenDone Done bytes) w ≡ giveReply w
 unfolding giveReply
-record-given s e = ap (λ (l : List ℕ). answered Done l s) e
+record-given w e = ap (λ (l : List ℕ). answered Done l w) e

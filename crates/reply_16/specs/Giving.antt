@@ -8,8 +8,8 @@ use Rattle.answer.specs.Answers.{numberOf, senseOf}
 use Rattle.answer.specs.declared.Answer.{Answer}
 use Rattle.record.specs.Bytes.{recordSize}
 use Rattle.sizes_16.specs.Sizes.{nexusCount, placeCount}
-use Rattle.device_16.specs.Model.{device}
-use Rattle.device_16.specs.declared.Device.{Device}
+use Rattle.device_16.specs.Model.{recordOf}
+use Rattle.device_16.specs.declared.Record.{Record}
 use Rattle.command.specs.Requests.{lentMost}
 use Rattle.command.specs.Replies.{replyHeadSize, Replied}
 use Rattle.reply_16.specs.declared.Reply.{Reply}
@@ -23,11 +23,11 @@ abbrev pub replyMost : ℕ
 replyMost = inFrom + lentMost + recordSize nexusCount placeCount
 
 abbrev pub replyOf : Replied → Reply
-replyOf x = record { device = device (x .state); number = x .number; sense = x .sense; length = length (x .bytes) }
+replyOf x = record { after = recordOf (x .after); number = x .number; sense = x .sense; length = length (x .bytes) }
 
 -- a reply with that answer and so many bytes of data
-abbrev pub replyWith : Device → Answer → ℕ → Reply
-replyWith d a count = record { device = d; number = numberOf a; sense = senseOf a; length = count }
+abbrev pub replyWith : Record → Answer → ℕ → Reply
+replyWith after a count = record { after = after; number = numberOf a; sense = senseOf a; length = count }
 
 -- a reply is given: as a value, and by its data in the buffer after its head; bytes beyond stay, and there is room for all
 pub record Given (x : Replied) (buffer : List ℕ) (r : Reply) (after : List ℕ) : Type 0 where

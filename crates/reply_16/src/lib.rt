@@ -3,7 +3,7 @@ use answer::Answer;
 use answer::Sense;
 use command::LENT_MOST;
 use command::UNKNOWN;
-use device_16::Device;
+use device_16::Record;
 use drive::Block;
 use drive::Command;
 use drive_16::Outcome;
@@ -12,8 +12,8 @@ use record_code::KADS_SIZE;
 ghost use mathlib.Core.Path.{_≡_};
 ghost use Prim.Native.Nat.{_+_, _≤_};
 ghost use lib.ListN.{length};
-ghost use Rattle.device_16.specs.Model.{state};
-ghost use Rattle.command.specs.Replies.{replyHeadSize, answered, whenDone, pointer, unknownReply, outReply, writeReply, readReply, statusReply, takeReply, giveReply};
+ghost use Rattle.device_16.specs.Model.{worded};
+ghost use Rattle.command.specs.Replies.{replyHeadSize, answered, whenDone, pointer, unknownReply, outReply, writeReply, readReply, servesReply, statusReply, takeReply, giveReply};
 ghost use Rattle.reply_16.specs.Giving.{replyMost, replyOf, replyWith, Given};
 
 pub const HEAD_SIZE: usize = 6;
@@ -30,23 +30,23 @@ const POINTING: u8 = 8;
 // The values of a status page before its key-associated data.
 const VALUES_SIZE: usize = 11;
 
-// The device stands first: after a byte and its padding the compiler copies it twice more. length counts the data bytes, which are in
-// the lent buffer from HEAD_SIZE on.
+// The record after the command stands first: after a byte and its padding the compiler copies it twice more. length counts the data bytes,
+// which are in the lent buffer from HEAD_SIZE on.
 pub struct Reply {
-    pub device: Device,
+    pub after: Record,
     pub number: u8,
     pub sense: Sense,
     pub length: usize,
 }
 
 // The reply with an answer and so many bytes of data.
-pub fn reply_with(device: Device, answer: Answer, length: usize) -> Reply
-    ensures { λ r. ⌜ r ≡ replyWith device answer length ⌝ }
+pub fn reply_with(after: Record, answer: Answer, length: usize) -> Reply
+    ensures { λ a. ⌜ a ≡ replyWith after answer length ⌝ }
 {
     let row = answer_code::row_of(answer);
     let sense = row.sense;
     Reply {
-        device,
+        after,
         number: row.number,
         sense,
         length,
@@ -55,19 +55,19 @@ pub fn reply_with(device: Device, answer: Answer, length: usize) -> Reply
 
 // The reply to a call that gives its answer alone.
 pub fn plain(outcome: Outcome) -> Reply
-    ensures { λ r. ⌜ r ≡ replyWith (outcome .device) (outcome .answer) 0 ⌝ }
+    ensures { λ a. ⌜ a ≡ replyWith (outcome .after) (outcome .answer) 0 ⌝ }
 {
-    let device = outcome.device;
+    let after = outcome.after;
     let answer = outcome.answer;
-    reply_with(device, answer, 0)
+    reply_with(after, answer, 0)
 }
 
 // The reply to an unknown command.
-pub fn unknown(d: Device) -> Reply
-    ensures { λ r. ⌜ r ≡ replyOf (unknownReply (state d)) ⌝ }
+pub fn unknown(r: Record) -> Reply
+    ensures { λ a. ⌜ a ≡ replyOf (unknownReply (worded r)) ⌝ }
 {
     Reply {
-        device: d,
+        after: r,
         number: UNKNOWN,
         sense: Sense::NONE,
         length: 0,
@@ -75,48 +75,48 @@ pub fn unknown(d: Device) -> Reply
 }
 
 // The reply with an answer whose data, where it is 0, are these bytes.
-fn give(d: Device, answer: Answer, bytes: &[u8], buffer: &mut [u8]) -> Reply
+fn give(r: Record, answer: Answer, bytes: &[u8], buffer: &mut [u8]) -> Reply
     requires { ⌜ replyHeadSize + length (now bytes) ≤ replyMost ⌝ }
-    ensures { λ r. ⌜ Given (answered answer (whenDone answer (now (bytes .entry))) (state d)) (now (buffer .entry)) r (now (buffer .exit)) ⌝ }
+    ensures { λ a. ⌜ Given (answered answer (whenDone answer (now (bytes .entry))) (worded r)) (now (buffer .entry)) a (now (buffer .exit)) ⌝ }
 {
     if !answer_code::is_done(answer) {
-        return reply_with(d, answer, 0);
+        return reply_with(r, answer, 0);
     }
     wire_code::put(buffer, HEAD_SIZE, bytes);
-    reply_with(d, answer, bytes.len())
+    reply_with(r, answer, bytes.len())
 }
 
 // The reply to a page: where it is answered 8, the number of the faulty byte.
-fn point(d: Device, answer: Answer, buffer: &mut [u8]) -> Reply
-    ensures { λ r. ⌜ Given (answered answer (pointer answer) (state d)) (now (buffer .entry)) r (now (buffer .exit)) ⌝ }
+fn point(r: Record, answer: Answer, buffer: &mut [u8]) -> Reply
+    ensures { λ a. ⌜ Given (answered answer (pointer answer) (worded r)) (now (buffer .entry)) a (now (buffer .exit)) ⌝ }
 {
     let row = answer_code::row_of(answer);
     if row.number != POINTING {
-        return reply_with(d, answer, 0);
+        return reply_with(r, answer, 0);
     }
     let byte = wire_code::two(row.faultyByte);
     wire_code::put(buffer, HEAD_SIZE, &byte);
-    reply_with(d, answer, 2)
+    reply_with(r, answer, 2)
 }
 
 // SECURITY PROTOCOL OUT.
-pub fn give_out(d: Device, command: Command, page: &[u8], buffer: &mut [u8]) -> Reply
-    ensures { λ r. ⌜ Given (outReply (state d) command (now (page .entry))) (now (buffer .entry)) r (now (buffer .exit)) ⌝ }
+pub fn give_out(r: Record, command: Command, page: &[u8], buffer: &mut [u8]) -> Reply
+    ensures { λ a. ⌜ Given (outReply (worded r) command (now (page .entry))) (now (buffer .entry)) a (now (buffer .exit)) ⌝ }
 {
-    let outcome = drive_16::security_out(d, command, page);
+    let outcome = drive_16::security_out(r, command, page);
     let answer = outcome.answer;
-    let after = outcome.device;
+    let after = outcome.after;
     point(after, answer, buffer)
 }
 
 // The write decision.
-pub fn give_write(d: Device, n: u8, supported: bool, buffer: &mut [u8]) -> Reply
-    ensures { λ r. ⌜ Given (writeReply (state d) n supported) (now (buffer .entry)) r (now (buffer .exit)) ⌝ }
+pub fn give_write(r: Record, n: u8, supported: bool, buffer: &mut [u8]) -> Reply
+    ensures { λ a. ⌜ Given (writeReply (worded r) n supported) (now (buffer .entry)) a (now (buffer .exit)) ⌝ }
 {
-    let outcome = drive_16::write(d, n, supported);
+    let outcome = drive_16::write(r, n, supported);
     let answer = outcome.answer;
     let decision = outcome.decision;
-    let after = outcome.device;
+    let after = outcome.after;
     let bytes = [
         drive_code::value_of(decision),
         (outcome.place % 256) as u8,
@@ -126,13 +126,13 @@ pub fn give_write(d: Device, n: u8, supported: bool, buffer: &mut [u8]) -> Reply
 }
 
 // The read decision.
-pub fn give_read(d: Device, n: u8, block: Block, buffer: &mut [u8]) -> Reply
-    ensures { λ r. ⌜ Given (readReply (state d) n block) (now (buffer .entry)) r (now (buffer .exit)) ⌝ }
+pub fn give_read(r: Record, n: u8, block: Block, buffer: &mut [u8]) -> Reply
+    ensures { λ a. ⌜ Given (readReply (worded r) n block) (now (buffer .entry)) a (now (buffer .exit)) ⌝ }
 {
-    let outcome = drive_16::read(d, n, block);
+    let outcome = drive_16::read(r, n, block);
     let answer = outcome.answer;
     let decision = outcome.decision;
-    let after = outcome.device;
+    let after = outcome.after;
     let bytes = [
         drive_code::read_value_of(decision),
         (outcome.place % 256) as u8,
@@ -140,40 +140,50 @@ pub fn give_read(d: Device, n: u8, block: Block, buffer: &mut [u8]) -> Reply
     give(after, answer, &bytes, buffer)
 }
 
+// The question which nexuses select a place: the place's word.
+pub fn give_served(r: Record, place: u16, buffer: &mut [u8]) -> Reply
+    ensures { λ a. ⌜ Given (servesReply (worded r) place) (now (buffer .entry)) a (now (buffer .exit)) ⌝ }
+{
+    let served = drive_16::serves(r, place);
+    let answer = served.answer;
+    let bytes = wire_code::eight(served.word);
+    give(r, answer, &bytes, buffer)
+}
+
 // The status reader.
-pub fn give_status(d: Device, page: &[u8], buffer: &mut [u8]) -> Reply
-    ensures { λ r. ⌜ Given (statusReply (state d) (now (page .entry))) (now (buffer .entry)) r (now (buffer .exit)) ⌝ }
+pub fn give_status(r: Record, page: &[u8], buffer: &mut [u8]) -> Reply
+    ensures { λ a. ⌜ Given (statusReply (worded r) (now (page .entry))) (now (buffer .entry)) a (now (buffer .exit)) ⌝ }
 {
     let read = status_code::read_status(page);
     let answer = read.answer;
     let status = read.status;
     if !answer_code::is_done(answer) {
-        return point(d, answer, buffer);
+        return point(r, answer, buffer);
     }
     let kads = status.kads;
     let head = command_code::values_head(status);
     let rest = record_code::kads_bytes(kads);
     wire_code::put(buffer, HEAD_SIZE, &head);
     wire_code::put(buffer, HEAD_SIZE + VALUES_SIZE, &rest);
-    reply_with(d, answer, VALUES_SIZE + KADS_SIZE)
+    reply_with(r, answer, VALUES_SIZE + KADS_SIZE)
 }
 
 // A device record taken.
-pub fn take_record(d: Device, bytes: &[u8]) -> Reply
-    ensures { λ r. ⌜ r ≡ replyOf (takeReply (state d) (now (bytes .entry))) ⌝ }
+pub fn take_record(r: Record, bytes: &[u8]) -> Reply
+    ensures { λ a. ⌜ a ≡ replyOf (takeReply (worded r) (now (bytes .entry))) ⌝ }
 {
     let loaded = record_16::load(bytes);
     if !loaded.good {
-        return reply_with(d, Answer::NotWellFormed, 0);
+        return reply_with(r, Answer::NotWellFormed, 0);
     }
-    let taken = loaded.device;
+    let taken = loaded.taken;
     reply_with(taken, Answer::Done, 0)
 }
 
 // The device record given.
-pub fn give_record(d: Device, buffer: &mut [u8]) -> Reply
-    ensures { λ r. ⌜ Given (giveReply (state d)) (now (buffer .entry)) r (now (buffer .exit)) ⌝ }
+pub fn give_record(r: Record, buffer: &mut [u8]) -> Reply
+    ensures { λ a. ⌜ Given (giveReply (worded r)) (now (buffer .entry)) a (now (buffer .exit)) ⌝ }
 {
-    let bytes = record_16::record_bytes(d);
-    give(d, Answer::Done, &bytes, buffer)
+    let bytes = record_16::record_bytes(r);
+    give(r, Answer::Done, &bytes, buffer)
 }

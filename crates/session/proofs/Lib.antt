@@ -1,4 +1,5 @@
 pub mod OneByOne
+pub mod Records
 pub mod Folds
 pub mod Stores
 pub mod Cut

@@ -1,6 +1,6 @@
 // A recorded session run on the drive of this model.
 use answer::Answer;
-use device_16::Device;
+use device_16::Record;
 use recording::ENTRY_SIZE;
 use recording::Verdict;
 use session::ANSWER_SIZE;
@@ -8,16 +8,17 @@ use sizes_16::NEXUSES;
 ghost use mathlib.Core.Path.{_≡_};
 ghost use lib.Seq.{sets};
 ghost use Rattle.wire.specs.Buffers.{shown};
-ghost use Rattle.device_16.specs.Model.{state, device};
-ghost use Rattle.drive.specs.Runs.{runFrom};
+ghost use Rattle.device_16.specs.Model.{worded, recordOf};
+ghost use Rattle.drive.specs.Records.{afterAll};
 ghost use Rattle.recording.specs.Entries.{calls};
 ghost use Rattle.recording.specs.Files.{fileVerdict, callsOf};
-ghost use Rattle.session.specs.Answers.{fourOf, answerBytes};
+ghost use Rattle.session.specs.Answers.{fourOf};
+ghost use Rattle.session.specs.Records.{answerBytesOf};
 ghost use Rattle.session_16.specs.Sessions.{start, Gives};
 
 // What a session gives: the record at the end, and its verdict.
 pub struct Ran {
-    pub device: Device,
+    pub after: Record,
     pub verdict: Verdict,
 }
 
@@ -40,17 +41,17 @@ fn store(out: &mut [u8], at: usize, answer: Answer)
 
 // The events in order, from any record: check 1 is made once. The lent buffer gets the answers, as many of their bytes as it holds, and
 // bytes beyond stay. A call that leaves the record as it is makes no new one.
-pub fn run(d: Device, events: &[u8], pages: &[u8], out: &mut [u8]) -> Device
-    ensures { λ r. ⌜ (r ≡ device (runFrom (state d) (calls (now (events .entry)) (now (pages .entry))))) × (now (out .exit) ≡ shown (answerBytes (state d) (calls (now (events .entry)) (now (pages .entry)))) (now (out .entry))) ⌝ }
+pub fn run(r: Record, events: &[u8], pages: &[u8], out: &mut [u8]) -> Record
+    ensures { λ a. ⌜ (a ≡ recordOf (afterAll (worded r) (calls (now (events .entry)) (now (pages .entry))))) × (now (out .exit) ≡ shown (answerBytesOf (worded r) (calls (now (events .entry)) (now (pages .entry)))) (now (out .entry))) ⌝ }
 {
-    let mut after = d;
-    let mut formed = device_16::well_formed(d);
+    let mut after = r;
+    let mut formed = words_16::formed(r);
     let mut rest = events;
     let mut i = 0;
     while ENTRY_SIZE <= rest.len() {
         let e = recording_code::entry_of(rest);
         let asked = recording_code::asked_of(e);
-        let sight = calls_16::look(after, calls_code::sender_number(asked));
+        let sight = calls_16::look(after.device, calls_code::sender_number(asked));
         let quiet = calls_code::quietly(formed, NEXUSES, sight.nexus, sight.set, asked);
         if quiet.quiet {
             let answer = quiet.answer;
@@ -64,7 +65,7 @@ pub fn run(d: Device, events: &[u8], pages: &[u8], out: &mut [u8]) -> Device
             );
             let answer = outcome.answer;
             store(out, ANSWER_SIZE * i, answer);
-            after = outcome.device;
+            after = outcome.after;
             formed = formed | calls_code::is_power_on(asked);
         }
         rest = &rest[ENTRY_SIZE..];
@@ -77,21 +78,21 @@ pub fn run(d: Device, events: &[u8], pages: &[u8], out: &mut [u8]) -> Device
 pub fn replay(file: &[u8], out: &mut [u8]) -> Ran
     ensures { λ r. ⌜ Gives (fileVerdict (now (file .entry))) start (callsOf (now (file .entry))) (now (out .entry)) r (now (out .exit)) ⌝ }
 {
-    let start = device_16::power_on();
+    let start = words_16::power_on();
     if !recording_code::is_sound_file(file) {
         return Ran {
-            device: start,
+            after: start,
             verdict: Verdict::RecordingWrong,
         };
     }
-    let device = run(
+    let after = run(
         start,
         recording_code::events_of(file),
         recording_code::pages_of(file),
         out,
     );
     Ran {
-        device,
+        after,
         verdict: Verdict::Done,
     }
 }

@@ -4,12 +4,12 @@ use mathlib.Core.List.{List}
 use lib.Dec.{ltb}
 use lib.ListN.{length, take, drop}
 use Rattle.arrays.specs.Base.{if_then_else_}
-use Rattle.device.specs.Record.{State}
+use Rattle.device.specs.Words.{Worded}
 use Rattle.command.specs.Requests.{orderOf, lentSize}
 use Rattle.command.specs.Replies.{replyHeadSize, Replied, unknownReply, replied}
 use Rattle.command.specs.declared.Request.{Request}
 use Rattle.command.specs.declared.Order.{Order}
-use Rattle.command.specs.declared.Order.the-variants.{Unknown, Ask, Batch, ReadStatus, TakeRecord, GiveRecord}
+use Rattle.command.specs.declared.Order.the-variants.{Unknown, Ask, Batch, Serves, ReadStatus, TakeRecord, GiveRecord}
 use Rattle.reply_16.specs.Giving.{inFrom, replyMost}
 
 -- where the lent buffer stands in the reply's: a batch's just after the reply's head, IN's after "the page's full length (2 ..)" too
@@ -20,6 +20,7 @@ abbrev pub lentFrom : Order → ℕ
 lentFrom Unknown = inFrom
 lentFrom (Ask asked size) = inFrom
 lentFrom (Batch size) = batchFrom
+lentFrom (Serves place) = inFrom
 lentFrom ReadStatus = inFrom
 lentFrom TakeRecord = inFrom
 lentFrom GiveRecord = inFrom
@@ -31,6 +32,6 @@ abbrev pub lentPart : Order → List ℕ → List ℕ
 lentPart order buffer = partFrom (lentFrom order) (lentSize order) buffer
 
 -- a buffer that has no room for every reply serves none: the command is answered as an unknown one
-unfoldable pub served : State → Request → (page buffer : List ℕ) → Replied
-served s request page buffer =
-    if ltb (length buffer) replyMost then unknownReply s else replied s request page (lentPart (orderOf request) buffer)
+unfoldable pub served : Worded → Request → (page buffer : List ℕ) → Replied
+served r request page buffer =
+    if ltb (length buffer) replyMost then unknownReply r else replied r request page (lentPart (orderOf request) buffer)

@@ -3,6 +3,7 @@ use answer::Answer;
 use calls::Asked;
 use device::Found;
 use device_16::Device;
+use device_16::Record;
 use drive::Command;
 use drive_16::Outcome;
 use recording::ENTRY_SIZE;
@@ -33,7 +34,7 @@ ghost use Rattle.why_16.specs.Following.{followedFor};
 
 // A session read for one nexus, and the record at its end.
 pub struct Followed {
-    pub device: Device,
+    pub after: Record,
     pub watch: Watch,
 }
 
@@ -166,10 +167,10 @@ fn follow_call(
     page: &[u8],
     outcome: Outcome,
 ) -> Watch
-    ensures { λ r. ⌜ r ≡ watchedWith n i (state d) (callOf asked (now (page .entry))) (outcome .answer) (state (outcome .device)) w ⌝ }
+    ensures { λ r. ⌜ r ≡ watchedWith n i (state d) (callOf asked (now (page .entry))) (outcome .answer) (state (outcome .after .device)) w ⌝ }
 {
     let answer = outcome.answer;
-    let after = outcome.device;
+    let after = outcome.after.device;
     let lock = is_lock(d, n, asked, page, answer);
     let locked = follow_lock(w, lock, calls_code::is_power_on(asked), n, i, d, after);
     follow_flags(locked, n, i, d, after)
@@ -179,28 +180,25 @@ fn follow_call(
 pub fn follow(events: &[u8], pages: &[u8], n: u8) -> Followed
     ensures { λ r. ⌜ r ≡ followedFor n (calls (now (events .entry)) (now (pages .entry))) ⌝ }
 {
-    let mut after = device_16::power_on();
+    let mut after = words_16::power_on();
     let mut watch = Watch::NONE;
     let mut rest = events;
     let mut i = 0;
     while ENTRY_SIZE <= rest.len() {
         let e = recording_code::entry_of(rest);
         let asked = recording_code::asked_of(e);
-        let sight = calls_16::look(after, calls_code::sender_number(asked));
+        let sight = calls_16::look(after.device, calls_code::sender_number(asked));
         let quiet = calls_code::quietly(true, NEXUSES, sight.nexus, sight.set, asked);
         if !quiet.quiet {
             let page = recording_code::page_of(e, pages);
             let outcome = calls_16::perform(after, true, asked, page);
-            watch = follow_call(watch, n, i, after, asked, page, outcome);
-            after = outcome.device;
+            watch = follow_call(watch, n, i, after.device, asked, page, outcome);
+            after = outcome.after;
         }
         rest = &rest[ENTRY_SIZE..];
         i += 1;
     }
-    Followed {
-        device: after,
-        watch,
-    }
+    Followed { after, watch }
 }
 
 // The nexus's next write, after these events: tried, and what answers it.
@@ -209,11 +207,12 @@ fn cause_after(events: &[u8], pages: &[u8], n: u8, supported: bool) -> Cause
     ensures { λ r. ⌜ r ≡ causeOf nexusCount placeCount n supported (calls (now (events .entry)) (now (pages .entry))) ⌝ }
 {
     let followed = follow(events, pages, n);
-    let device = followed.device;
-    let tried = drive_16::write(device, n, supported);
+    let after = followed.after;
+    let tried = drive_16::write(after, n, supported);
     let answer = tried.answer;
     let row = answer_code::row_of(answer);
     let number = row.number;
+    let device = after.device;
     let sight = calls_16::look(device, n);
     let set = sight.set;
     Cause {

@@ -1,6 +1,6 @@
 -- Bytes of a list read, and as they stand in it.
 -- Assumes nothing.
-use Prim.Native.Nat.{ℕ, zero, suc, _+_, _≤_, _<_}
+use Prim.Native.Nat.{ℕ, zero, suc, _+_, _^_, _≤_, _<_}
 use mathlib.Core.Path.{_≡_, refl, sym, ap, ap₂, _∙_}
 use mathlib.Core.Bool.{Bool, true, false}
 use mathlib.Core.List.{List, [], _∷_, _++_, append-nil}
@@ -12,9 +12,9 @@ use lib.Seq.{drop-cons, drop-append-add, take-at, getD-drop}
 use Rattle.arrays.specs.Base.{bit}
 use Rattle.arrays.proofs.Base.{cases}
 use Rattle.arrays.proofs.Laws.{each-at}
-use Rattle.wire.specs.Numbers.{byteAt, number, four, flagAt, yesOrNo, areBytes}
+use Rattle.wire.specs.Numbers.{byteAt, number, numberAt, four, wide, eight, flagAt, yesOrNo, areBytes}
 use Rattle.wire.specs.Buffers.{padded}
-use Rattle.wire.proofs.Numbers.{four-number}
+use Rattle.wire.proofs.Numbers.{number-below, four-number, eight-halves}
 
 -- ---- n bytes
 
@@ -79,3 +79,17 @@ below-drop l k h i = rw (getD-drop k l i 0) (h (k + i))
 -- four of them and their number
 pub four-again : (l : List ℕ) (a b c d : ℕ) → Below l → four (number (byteAt l a) (byteAt l b) (byteAt l c) (byteAt l d)) ≡ byteAt l a ∷ byteAt l b ∷ byteAt l c ∷ byteAt l d ∷ []
 four-again l a b c d h = four-number (byteAt l a) (byteAt l b) (byteAt l c) (byteAt l d) (h a) (h b) (h c) (h d)
+
+-- a number of four bytes has 32 bits
+pub number-bits : (l : List ℕ) (at : ℕ) → Below l → numberAt l at < 2 ^ 32
+number-bits l at b = number-below _ _ _ _ (b at) (b (at + 1)) (b (at + 2)) (b (at + 3))
+
+-- one of eight has 64
+pub wide-bits : (l : List ℕ) → Below l → wide l < 2 ^ 64
+wide-bits l b = omega (arith, number-bits l 0 b, number-bits l 4 b)
+
+-- eight of them and their number
+pub wide-again : (l : List ℕ) → Below l → 8 ≤ length l → eight (wide l) ≡ take 8 l
+wide-again l b h =
+    eight-halves (numberAt l 0) (numberAt l 4) (number-bits l 4 b) ∙ ap₂ (λ (x y : List ℕ). x ++ y) (four-again l 0 1 2 3 b) (four-again l 4 5 6 7 b)
+    ∙ sym (take-run 8 0 l h)

@@ -1,11 +1,11 @@
 -- A number and its bytes.
 -- Assumes nothing.
-use mathlib.Core.Path.{_≡_, refl}
-use mathlib.Core.List.{[], _∷_}
-use Prim.Native.Nat.{ℕ, _+_, _*_, _/_, _%_, _<_}
+use mathlib.Core.Path.{_≡_, refl, ap₂}
+use mathlib.Core.List.{List, [], _∷_, _++_}
+use Prim.Native.Nat.{ℕ, _+_, _*_, _/_, _%_, _^_, _<_}
 use native.Mathlib.Omega.{arith}
 use lib.Pow.{shr-shr}
-use Rattle.wire.specs.Numbers.{word, number, two, four}
+use Rattle.wire.specs.Numbers.{word, number, two, four, wide, eight}
 
 -- four bytes make less than 4,294,967,296
 pub number-below : (a b c d : ℕ) → a < 256 → b < 256 → c < 256 → d < 256 → number a b c d < 4294967296
@@ -48,3 +48,15 @@ two-lower n =
     let high : n % 65536 / 256 % 256 ≡ n / 256 % 256 = omega arith in
     let low : n % 65536 % 256 ≡ n % 256 = omega arith in
     rw (high, low) refl
+
+-- the eight bytes of a number give it back, whatever follows
+pub wide-eight : (n : ℕ) → n < 2 ^ 64 → (rest : List ℕ) → wide (eight n ++ rest) ≡ n
+wide-eight n h rest =
+    omega (arith, number-four (n / 4294967296) (omega arith), number-four (n % 4294967296) (omega arith))
+
+-- the bytes of a number of two halves are those of its halves
+pub eight-halves : (a b : ℕ) → b < 4294967296 → eight (a * 4294967296 + b) ≡ four a ++ four b
+eight-halves a b h =
+    let upper : (a * 4294967296 + b) / 4294967296 ≡ a = omega arith in
+    let lower : (a * 4294967296 + b) % 4294967296 ≡ b = omega arith in
+    ap₂ (λ (x y : ℕ). four x ++ four y) upper lower

@@ -7,7 +7,7 @@ use mathlib.Core.List.{List, [], _∷_, _++_, map, append-assoc}
 use native.Mathlib.Nat.{zero-mul, suc-mul, add-zero, zero-add}
 use native.Mathlib.Numerals.{add-one}
 use native.Mathlib.Omega.{arith}
-use lib.ListN.{length, getD, take, drop, replicate, length-append, length-drop, drop-of-length-le}
+use lib.ListN.{length, getD, take, drop, replicate, length-append, length-drop, drop-of-length-le, take-append-drop}
 use lib.Seq.{sets, length-sets, drop-cons, drop-drop, drop-at, take-add}
 use Rattle.arrays.specs.Arrays.{mapFrom, all}
 use Rattle.arrays.proofs.Base.{both, and-left, and-right}
@@ -139,6 +139,13 @@ each-part size test f (suc n) bytes b h e =
     let split : (test bytes && others) ≡ true = sym (all-cons (λ (ok : Bool). ok) (test bytes) (parts test size n rest)) ∙ e in
     (f bytes b (omega (arith, next size n)) (and-left (test bytes) others split), each-part size test f n rest (below-drop bytes size b) (omega (arith, next size n, length-drop size bytes)) (and-right (test bytes) others split))
 
+-- each is there
+pub each-there : {P : List ℕ → Type 0} (size : ℕ) → ((part : List ℕ) → Below part → size ≤ length part → P part) → (n : ℕ) (bytes : List ℕ) → Below bytes → n * size ≤ length bytes → Each P (parts (λ part. part) size n bytes)
+unfolding parts
+each-there size f zero bytes b h = tt
+each-there size f (suc n) bytes b h =
+    (f bytes b (omega (arith, next size n)), each-there size f n (drop size bytes) (below-drop bytes size b) (omega (arith, next size n, length-drop size bytes)))
+
 -- elements whose bytes, with anything after them, pass it: each part passes
 pub parts-pass : {A : Type 0} (write : A → List ℕ) (size : ℕ) (test : List ℕ → Bool) (xs : List A) → Each (λ x. (length (write x) ≡ size) × ((rest : List ℕ) → test (write x ++ rest) ≡ true)) xs
     → (rest : List ℕ) → all (λ ok. ok) (parts test size (length xs) (joined write xs ++ rest)) ≡ true
@@ -150,12 +157,32 @@ parts-pass write size test (x ∷ xs) h rest =
     let after : drop size (write x ++ more) ≡ more = drop-at (write x) more size (h .0 .0) in
     rw (split, after) (all-cons (λ (ok : Bool). ok) (test (write x ++ more)) (parts test size (length xs) more) ∙ both _ _ (h .0 .1 more) (parts-pass write size test xs (h .1) rest))
 
+-- ---- n elements, and whatever follows
+
+module _ {A : Type 0} (write : A → List ℕ) (size n : ℕ) (xs : List A) (counted : length xs ≡ n) (sized : Each (λ x. length (write x) ≡ size) xs) where
+  -- they are so many bytes
+  pub section-length : length (joined write xs) ≡ n * size
+  section-length = rw counted at (joined-length write size xs sized)
+
+  -- past which is what follows
+  pub section-past : (rest : List ℕ) → drop (n * size) (joined write xs ++ rest) ≡ rest
+  section-past rest = drop-at (joined write xs) rest (n * size) section-length
+
+-- the next n bytes, and then all others
+pub section-on : (from n : ℕ) (bytes : List ℕ) {these others : List ℕ} → these ≡ take n (drop from bytes) → others ≡ drop (from + n) bytes → these ++ others ≡ drop from bytes
+section-on from n bytes p q = ap₂ (λ (x y : List ℕ). x ++ y) p (q ∙ sym (drop-drop n from bytes)) ∙ take-append-drop n (drop from bytes)
+
 -- ---- of each element
 
 -- both of two
 pub each-both : {A : Type 0} (P Q : A → Type 0) (xs : List A) → Each P xs → Each Q xs → Each (λ x. P x × Q x) xs
 each-both P Q [] p q = tt
 each-both P Q (x ∷ xs) p q = ((p .0, q .0), each-both P Q xs (p .1) (q .1))
+
+-- what any has
+pub each-all : {A : Type 0} {R : A → Type 0} → ((x : A) → R x) → (xs : List A) → Each R xs
+each-all f [] = tt
+each-all f (x ∷ xs) = (f x, each-all f xs)
 
 -- what follows from what it has
 pub each-same : {A : Type 0} {P R : A → Type 0} → ((x : A) → P x → R x) → (xs : List A) → Each P xs → Each R xs

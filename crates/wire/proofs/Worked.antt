@@ -4,7 +4,7 @@ use mathlib.Core.Path.{_≡_, refl}
 use mathlib.Core.Bool.{true, false}
 use mathlib.Core.List.{List, [], _∷_, _++_}
 use lib.ListN.{replicate}
-use Rattle.wire.specs.Numbers.{wordAt, numberAt, two, four}
+use Rattle.wire.specs.Numbers.{wordAt, numberAt, two, four, wide, eight}
 use Rattle.wire.specs.Bits.{bits, bitAt}
 use Rattle.wire.specs.Buffers.{shown, padded, allZero}
 use Rattle.wire.specs.Rules.{lengthWrong, breach, zeroRules}
@@ -47,6 +47,9 @@ page-code = refl
 
 number-order : numberAt (0x01 ∷ 0x02 ∷ 0x03 ∷ 0x04 ∷ []) 0 ≡ 0x01020304
 number-order = refl
+
+eight-order : (eight 0x0102030405060708 ≡ 1 ∷ 2 ∷ 3 ∷ 4 ∷ 5 ∷ 6 ∷ 7 ∷ 8 ∷ []) × (wide (1 ∷ 2 ∷ 3 ∷ 4 ∷ 5 ∷ 6 ∷ 7 ∷ 8 ∷ 9 ∷ []) ≡ 0x0102030405060708)
+eight-order = (refl, refl)
 
 -- a page in a shorter buffer, and in a longer one
 short-buffer : shown (1 ∷ 2 ∷ 3 ∷ []) (8 ∷ 9 ∷ []) ≡ 1 ∷ 2 ∷ []

@@ -1,7 +1,7 @@
 -- Numbers are big-endian. A byte past a list's end reads as 0.
 use Prim.Native.Nat.{ℕ, _+_, _*_, _/_, _%_}
 use mathlib.Core.Bool.{Bool}
-use mathlib.Core.List.{List, [], _∷_}
+use mathlib.Core.List.{List, [], _∷_, _++_}
 use lib.Dec.{leb, ltb, eqb}
 use lib.ListN.{getD}
 use Rattle.arrays.specs.Arrays.{all}
@@ -29,6 +29,13 @@ two n = n / 256 % 256 ∷ n % 256 ∷ []
 
 abbrev pub four : ℕ → List ℕ
 four n = n / 16777216 % 256 ∷ n / 65536 % 256 ∷ n / 256 % 256 ∷ n % 256 ∷ []
+
+-- the number in the first eight bytes, the upper half in the first four; and as eight bytes
+abbrev pub wide : List ℕ → ℕ
+wide s = numberAt s 0 * 4294967296 + numberAt s 4
+
+abbrev pub eight : ℕ → List ℕ
+eight n = four (n / 4294967296) ++ four (n % 4294967296)
 
 -- a byte that tells yes or no is a yes where it is 1, and a no where it is 0
 abbrev pub flagAt : List ℕ → ℕ → Bool

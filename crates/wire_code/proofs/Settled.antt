@@ -16,6 +16,10 @@ use Rattle.wire_code.proofs.two.Reads as two
 use Rattle.wire_code.proofs.two.Kinds as two-kinds
 use Rattle.wire_code.proofs.four.Reads as four
 use Rattle.wire_code.proofs.four.Kinds as four-kinds
+use Rattle.wire_code.proofs.wide.Reads as wide
+use Rattle.wire_code.proofs.wide.Kinds as wide-kinds
+use Rattle.wire_code.proofs.eight.Reads as eight
+use Rattle.wire_code.proofs.eight.Kinds as eight-kinds
 use Rattle.wire_code.proofs.put.Reads as put
 use Rattle.wire_code.proofs.put.Kinds as put-kinds
 use Rattle.wire_code.proofs.show.Reads as show
@@ -56,6 +60,12 @@ two-settles κs a x y s t p q = same p q
 
 pub four-settles : SettlesAnswer 0 four-kinds.ps four-kinds.r four.Post
 four-settles κs a x y s t p q = same p q
+
+pub wide-settles : SettlesAnswer 1 wide-kinds.ps wide-kinds.r wide.Post
+wide-settles κs a x y s t p q = same p q
+
+pub eight-settles : SettlesAnswer 0 eight-kinds.ps eight-kinds.r eight.Post
+eight-settles κs a x y s t p q = same p q
 
 pub put-settles : Settles 2 put-kinds.ps put-kinds.r (List ℕ) (λ κs s. now (s .0)) put.Post
 put-settles κs a x y s t p q = (refl, same p q)

@@ -3,7 +3,7 @@ ghost use mathlib.Core.Path.{_≡_};
 ghost use Prim.Native.Nat.{_<_};
 ghost use lib.ListN.{length, take, drop};
 ghost use lib.Seq.{sets};
-ghost use Rattle.wire.specs.Numbers.{byteAt, word, number, wordAt, numberAt, two, four};
+ghost use Rattle.wire.specs.Numbers.{byteAt, word, number, wordAt, numberAt, two, four, wide, eight};
 ghost use Rattle.wire.specs.Buffers.{Shown, padded, allZero, sameBytes};
 ghost use Rattle.wire.specs.Rules.{lengthWrong, breach, zeroRules};
 
@@ -68,6 +68,30 @@ pub fn four(n: u32) -> [u8; 4]
         (n / 65536 % 256) as u8,
         (n / 256 % 256) as u8,
         (n % 256) as u8,
+    ]
+}
+
+// The number in a part's first eight bytes, of which those past the end are 0.
+pub fn wide(part: &[u8]) -> u64
+    ensures { λ r. ⌜ r ≡ wide (now (part .entry)) ⌝ }
+{
+    number_at(part, 0) as u64 * 4294967296 + number_at(part, 4) as u64
+}
+
+pub fn eight(n: u64) -> [u8; 8]
+    ensures { λ r. ⌜ r ≡ eight n ⌝ }
+{
+    let upper = four((n / 4294967296) as u32);
+    let lower = four((n % 4294967296) as u32);
+    [
+        upper[0],
+        upper[1],
+        upper[2],
+        upper[3],
+        lower[0],
+        lower[1],
+        lower[2],
+        lower[3],
     ]
 }
 

@@ -1,5 +1,6 @@
-//! Plays P1 to P10 of document 01, "Proved examples", the field pointer, a restoring host and a bridge board's batch of
-//! document 02 and the recording of a month on a drive program and tells in words what happens.
+//! Plays P1 to P10 of document 01, "Proved examples", with which hosts each set serves after P5 and P7, the field pointer, a
+//! restoring host and a bridge board's batch of document 02 and the recording of a month on a drive program and tells in
+//! words what happens.
 //!
 //! `demo ROOT PROGRAM [ARGUMENT ...]`: ROOT is the repository's root, which has the month in examples/.
 
@@ -19,6 +20,8 @@ mod month;
 mod pipe;
 #[path = "support/restoring_host.rs"]
 mod restoring_host;
+#[path = "support/served.rs"]
+mod served;
 #[path = "support/standard.rs"]
 mod standard;
 
@@ -172,7 +175,9 @@ impl Play {
         let status = [0x00, 0x20, 0x00, 0x14, 0x21, 0x02, 0x02, 0x01, 0x00, 0x00, 0x00, 0x06, 0x02];
         self.status(4, &status, 24)?;
         self.write(0, true, Err(3))?;
-        self.status(0, &[0x00, 0x20, 0x00, 0x14], 24)
+        self.status(0, &[0x00, 0x20, 0x00, 0x14], 24)?;
+        // place 0: nexus 0 and nexuses 5 to 15; then nexuses 4, 1, 2 and 3
+        self.served([0xFFE1, 0x0010, 0x0002, 0x0004, 0x0008])
     }
 
     fn p6(&mut self) -> Played {
@@ -192,6 +197,8 @@ impl Play {
         self.record("place 1 is empty with number 2", |record| {
             (record.places[1].is_used(), record.places[1].number, record.counter) == (false, 2, 2)
         })?;
+        // place 0: nexuses 0 to 15, nexus 3 among them again
+        self.served([0xFFFF, 0, 0, 0, 0])?;
         self.write(3, true, Err(4))?;
         self.write(3, true, Err(11))
     }

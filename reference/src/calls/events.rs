@@ -68,16 +68,12 @@ impl Controller {
     /// 01: "vendor release, the named place"; check 13: "place argument above 4".
     pub fn vendor_release(&mut self, named: u16) -> Result<(), Refused> {
         self.check_record()?;
-        let named = usize::from(named);
-        if named >= PLACES {
-            self.account.note(Rule::PlaceAbove4);
-            return Err(Refused::PlaceAbove4);
-        }
+        let named = self.check_place(named)?;
         self.release_where(Cause::VendorEvent, |place, _| place == named);
         Ok(())
     }
 
-    /// Releases the chosen places in rising order, then gives the flags.
+    /// Releases the chosen places in rising order, puts the words right, then gives the flags.
     fn release_where(&mut self, cause: Cause, chosen: impl Fn(usize, &Set) -> bool) {
         let before = self.record.clone();
         for place in 0..PLACES {
@@ -85,6 +81,7 @@ impl Controller {
                 self.release(place);
             }
         }
+        self.keep_words();
         self.flag_changes(&before, cause);
     }
 }

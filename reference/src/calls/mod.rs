@@ -1,9 +1,10 @@
-//! The calls of 01, and the read of 02, each a method of the controller.
+//! The calls of 01, and of 02 the read and which hosts a set serves, each a method of the controller.
 
 mod events;
 mod read;
 mod security_in;
 mod security_out;
+mod serves;
 mod write;
 
 pub use read::{ReadAs, ReadBlock};

@@ -52,6 +52,7 @@ impl Controller {
                 self.take_scope_and_lock(nexus, parameters.scope, parameters.lock);
             }
         }
+        self.keep_words();
         self.flag_changes(&before, Cause::AnotherNexus { acting: nexus });
         Ok(())
     }

@@ -22,6 +22,7 @@ pub mod session;
 mod shrink;
 pub mod vector_file;
 mod wire;
+pub mod word_cases;
 
 use crate::stream::Drive;
 use difference::Difference;

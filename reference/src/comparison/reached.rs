@@ -5,6 +5,7 @@ use super::ceem_cases::CeemCase;
 use super::faulty_byte_cases::FaultyByteCase;
 use super::place_cases::{PlaceCase, PlaceHistory};
 use super::report::kind_name;
+use super::word_cases::{WordCase, WordHistory};
 use crate::account::{Account, ReadCell, Rule};
 use crate::codes::{decryption, encryption};
 use crate::names::READ;
@@ -52,6 +53,7 @@ pub enum Item {
     Batch(BatchCase),
     Place(PlaceCase),
     FaultyByte(FaultyByteCase),
+    Word(WordCase),
 }
 
 impl Item {
@@ -81,6 +83,7 @@ impl Item {
             Item::Batch(case) => case.group(),
             Item::Place(case) => case.group(),
             Item::FaultyByte(case) => case.group(),
+            Item::Word(case) => case.group(),
         }
     }
 
@@ -94,6 +97,7 @@ impl Item {
             Item::Batch(case) => case.is_one_of_all_values(),
             Item::Place(case) => case.is_one_of_all_values(),
             Item::FaultyByte(case) => case.is_one_of_all_values(),
+            Item::Word(case) => case.is_one_of_all_values(),
             _ => false,
         }
     }
@@ -126,12 +130,13 @@ impl fmt::Display for Item {
             Item::Batch(case) => write!(formatter, "{case}"),
             Item::Place(case) => write!(formatter, "{case}"),
             Item::FaultyByte(case) => write!(formatter, "{case}"),
+            Item::Word(case) => write!(formatter, "{case}"),
         }
     }
 }
 
-/// The answers each kind of call can give, by 01, 02 and docs/CONSOLE.md. 13 stands for the unknown kinds.
-pub const KIND_ANSWERS: [(u8, &[u8]); 16] = [
+/// The answers each kind of call can give, by 01, 02 and docs/CONSOLE.md. 14 stands for the unknown kinds.
+pub const KIND_ANSWERS: [(u8, &[u8]); 17] = [
     (kind::POWER_ON, &[0]),
     (kind::IN, &[0, 1, 2, 3, 4, 5, 6]),
     (kind::OUT, &[0, 1, 2, 3, 4, 5, 6, 7, 8, 9, 10]),
@@ -145,11 +150,12 @@ pub const KIND_ANSWERS: [(u8, &[u8]); 16] = [
     (kind::VENDOR_RELEASE, &[0, 1, 13]),
     (kind::READ, &[0, 1, 2, 3, 4, 14, 15, 16, 17]),
     (kind::BATCH, &[0, 18, 22, 255]),
+    (kind::SERVES, &[0, 1, 13]),
     (kind::READ_STATUS, &[0, 7, 8]),
     (kind::LOAD_RECORD, &[0, 1]),
     (UNKNOWN, &[255]),
 ];
-const UNKNOWN: u8 = 13;
+const UNKNOWN: u8 = 14;
 
 /// Every cell of the table of reads: the modes, which tell whether the set holds a main key, the count of
 /// supplemental keys, the block kind and the key.
@@ -180,6 +186,7 @@ pub struct Reached {
     page_bytes: BTreeMap<usize, Vec<u64>>,
     page_rule_pairs: BTreeSet<(PageRule, PageRule)>,
     places: PlaceHistory,
+    words: WordHistory,
     pub calls: u64,
 }
 
@@ -217,6 +224,9 @@ impl Reached {
         }
         for case in FaultyByteCase::of(command, before, reply, account) {
             self.add(Item::FaultyByte(case));
+        }
+        for case in self.words.follow(command, before, reply, account) {
+            self.add(Item::Word(case));
         }
         self.count_account(account);
     }
@@ -329,6 +339,7 @@ impl Reached {
         wanted.extend(BatchCase::every().into_iter().map(Item::Batch));
         wanted.extend(PlaceCase::every().into_iter().map(Item::Place));
         wanted.extend(FaultyByteCase::every().into_iter().map(Item::FaultyByte));
+        wanted.extend(WordCase::every().into_iter().map(Item::Word));
         wanted.sort();
         wanted
     }

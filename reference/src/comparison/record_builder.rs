@@ -3,6 +3,8 @@
 use super::numbers::Numbers;
 use crate::codes::{scope, ALGORITHM};
 use crate::record::{Kad, Record, Set};
+use crate::record_bytes;
+use crate::selection_words::bit;
 use crate::sizes::{A_KAD_BYTES, KEY_BYTES, NEXUSES, PLACES, SUPPLEMENTAL_KEYS, U_KAD_BYTES};
 
 /// A used place's set with these modes and without key-associated data.
@@ -23,12 +25,14 @@ pub fn settle(record: &mut Record, place: usize, nexus: usize, encryption: u8, d
     record.places[place] = used_set(nexus as u8, scope::LOCAL, encryption, decryption, number);
     record.nexuses[nexus].scope = scope::LOCAL;
     record.nexuses[nexus].last_local = number;
+    record.put_words_right();
 }
 
 /// Puts a set for the ALL nexus into place 0.
 pub fn settle_all(record: &mut Record, nexus: usize, encryption: u8, decryption: u8, number: u32) {
     record.places[0] = used_set(nexus as u8, scope::ALL, encryption, decryption, number);
     record.nexuses[nexus].scope = scope::ALL;
+    record.put_words_right();
 }
 
 /// Gives a set so many supplemental keys.
@@ -91,6 +95,7 @@ pub fn without_all_nexus() -> Record {
     record.nexuses[0].scope = scope::PUBLIC;
     record.places[1] = Set::empty(42);
     record.counter = 42;
+    record.put_words_right();
     record
 }
 
@@ -183,5 +188,36 @@ pub fn random_record(numbers: &mut Numbers) -> Record {
         nexus.changed_by_another_nexus = numbers.percent(pending);
         nexus.changed_by_vendor_event = numbers.percent(pending);
     }
+    record.put_words_right();
     record
+}
+
+/// The record's bytes with the words that its scopes say, if they can be read.
+pub fn with_right_words(bytes: Vec<u8>) -> Vec<u8> {
+    let Some(mut record) = record_bytes::load(&bytes) else { return bytes };
+    record.put_words_right();
+    record_bytes::give(&record)
+}
+
+/// The words of a record made wrong: bits turned, mostly one and mostly of a nexus; a nexus's bit in another word; two words
+/// exchanged, or one lost; or anything.
+pub fn random_wrong_words(numbers: &mut Numbers, record: &mut Record) {
+    let words = &mut record.selection_words;
+    let (place, other) = (numbers.below(PLACES), numbers.below(PLACES));
+    let nexus = numbers.below(NEXUSES);
+    match numbers.below(8) {
+        0..=2 => {
+            for _ in 0..numbers.pick(&[1, 1, 1, 2, 3]) {
+                let bits = numbers.pick(&[NEXUSES, NEXUSES, 64]);
+                words[numbers.below(PLACES)] ^= bit(numbers.below(bits));
+            }
+        }
+        3 | 4 => {
+            words.iter_mut().for_each(|word| *word &= !bit(nexus));
+            words[place] |= bit(nexus);
+        }
+        5 => words.swap(place, other),
+        6 => words[place] = numbers.pick(&[0, 0xFFFF, u64::MAX]),
+        _ => words[place] = numbers.next(),
+    }
 }

@@ -12,8 +12,9 @@ use crate::field_words::field_of;
 use crate::hex;
 use crate::names::{name_of, CALLS};
 use crate::record::Record;
-use crate::record_bytes::{field_name, RECORD_BYTES};
+use crate::record_bytes::{field_name, RECORD_BYTES, SELECTION_WORD};
 use crate::recording::{run_on, ANSWER_BYTES};
+use crate::selection_words::in_words;
 use crate::stream::{kind, Command, Drive, Reply};
 use std::fmt::Write;
 
@@ -25,6 +26,7 @@ const MOST_PAGE_BYTES: usize = 4096;
 pub fn kind_name(kind: u8) -> &'static str {
     match kind {
         kind::BATCH => "batch",
+        kind::SERVES => "serves",
         kind::READ_STATUS => "status reader (253)",
         kind::LOAD_RECORD => "load record (254)",
         kind::GIVE_RECORD => "give record (255)",
@@ -75,6 +77,14 @@ fn command_text(command: &Command, reply: &Reply) -> String {
                  {port}, length {length})"
             )
         }
+        kind::SERVES => {
+            let (place, nexus, protocol) = (command.argument, command.nexus, command.protocol);
+            let (port, length) = (command.port, command.length);
+            write!(
+                text,
+                ", place {place} (ignored: nexus {nexus}, protocol {protocol:02X}h, port {port}, length {length})"
+            )
+        }
         kind::READ_STATUS => write!(text, ", {} bytes", command.data.len()),
         kind::LOAD_RECORD => return load_text(command),
         kind::BATCH => return batch_text(command, reply),
@@ -123,14 +133,14 @@ fn load_text(command: &Command) -> String {
     let mut text = "load record (254), zero but for:\n".to_string();
     for (name, bytes) in fields(&command.data) {
         if bytes.iter().any(|&byte| byte != 0) {
-            let _ = writeln!(text, "        {name}: {bytes:02X?}");
+            let _ = writeln!(text, "        {name}: {}", value_text(&name, &bytes));
         }
     }
     text
 }
 
 /// A record's bytes by field.
-pub fn fields(record: &[u8]) -> Vec<(String, Vec<u8>)> {
+fn fields(record: &[u8]) -> Vec<(String, Vec<u8>)> {
     let mut fields: Vec<(String, Vec<u8>)> = Vec::new();
     for (offset, &byte) in record.iter().enumerate() {
         let name = field_name(offset);
@@ -142,11 +152,32 @@ pub fn fields(record: &[u8]) -> Vec<(String, Vec<u8>)> {
     fields
 }
 
+/// A field's bytes, a selection word's with the nexuses that it names.
+fn value_text(name: &str, bytes: &[u8]) -> String {
+    let word = bytes.try_into().ok().filter(|_| name.ends_with(SELECTION_WORD)).map(u64::from_be_bytes);
+    let nexuses = word.map_or(String::new(), |word| format!(" ({})", in_words(word)));
+    format!("{bytes:02X?}{nexuses}")
+}
+
+/// The fields in which two records of the same length differ.
+pub fn differing_fields_text(reference: &[u8], other: &[u8]) -> String {
+    let mut text = String::new();
+    for ((name, reference), (_, other)) in fields(reference).into_iter().zip(fields(other)) {
+        if reference != other {
+            let [reference, other] = [reference, other].map(|bytes| value_text(&name, &bytes));
+            let _ = writeln!(text, "    {name}: reference {reference}, other {other}");
+        }
+    }
+    text
+}
+
 /// The reply to a command in words.
 fn reply_text(command: &Command, reply: &Reply) -> String {
     let field = field_of(command, reply).map_or(String::new(), |field| format!(", {field}"));
+    let served = reply.served().filter(|_| command.kind == kind::SERVES);
+    let served = served.map_or(String::new(), |word| format!(", {}", in_words(word)));
     format!(
-        "answer {} ({}){field}, sense {}, {} bytes\n{}",
+        "answer {} ({}){field}{served}, sense {}, {} bytes\n{}",
         reply.number,
         when(reply.number),
         sense_codes(reply.sense),
@@ -169,13 +200,7 @@ fn record_text(reference: &Reply, other: &Reply) -> String {
         let [reference, other] = [reference, other].map(|reply| reply_text(&give_record(), reply));
         return format!("    reference: {reference}    other: {other}");
     }
-    let mut text = String::new();
-    for ((name, reference), (_, other)) in fields(&reference.data).into_iter().zip(fields(&other.data)) {
-        if reference != other {
-            let _ = writeln!(text, "    {name}: reference {reference:02X?}, other {other:02X?}");
-        }
-    }
-    text
+    differing_fields_text(&reference.data, &other.data)
 }
 
 /// The byte that a broken rule points to.

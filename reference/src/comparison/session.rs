@@ -60,6 +60,11 @@ pub fn vendor_release(place: u16) -> Command {
     Command { argument: place, ..event(kind::VENDOR_RELEASE) }
 }
 
+/// Which nexuses the set in a place serves.
+pub fn serves(place: u16) -> Command {
+    Command { argument: place, ..event(kind::SERVES) }
+}
+
 /// The status reader on a page.
 pub fn read_status(page: Vec<u8>) -> Command {
     with_data(kind::READ_STATUS, page)

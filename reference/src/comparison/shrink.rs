@@ -1,9 +1,11 @@
-//! A session with a difference, made short: commands are dropped, then pages shortened and bytes zeroed. Of batches,
-//! events are dropped and page bytes cut; one whose events differ one by one too becomes those.
+//! A session with a difference, made short: commands are dropped, then pages shortened and bytes zeroed, a loaded record's
+//! with its words put right where they were. Of batches, events are dropped and page bytes cut; one whose events differ one
+//! by one too becomes those.
 
 use super::batch_builder::BatchParts;
 use super::difference::{compare_fresh, Difference};
 use super::page_builder::set_length;
+use super::record_builder::with_right_words;
 use super::recordings::shrink::cut_from_page;
 use crate::recording::{ANSWER_BYTES, BATCH_EVENTS};
 use crate::stream::{kind, Command};
@@ -208,11 +210,20 @@ impl Shrinker<'_> {
                 let stop = (start + run).min(size);
                 if command.data[start..stop].iter().any(|&byte| byte != 0) {
                     command.data[start..stop].fill(0);
-                    self.keep_with(number, command);
+                    self.keep_zeroed(number, command);
                 }
             }
             run /= 2;
         }
+    }
+
+    /// Keeps a command some of whose data were zeroed; a record also with the words that its scopes then say.
+    fn keep_zeroed(&mut self, number: usize, command: Command) {
+        if self.keep_with(number, command.clone()) || command.kind != kind::LOAD_RECORD {
+            return;
+        }
+        let data = with_right_words(command.data.clone());
+        self.keep_with(number, Command { data, ..command });
     }
 
     /// Makes the lent buffer of IN, or of a batch, smaller.

@@ -140,6 +140,7 @@ impl Vector {
             sender.last_local = if set.scope == scope::LOCAL { set.number } else { 0 };
             record.counter = set.number;
             record.places[*place] = set.clone();
+            record.put_words_right();
         }
         record
     }

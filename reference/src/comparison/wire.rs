@@ -6,7 +6,7 @@ use super::difference::{bytes_of, compare};
 use super::other_drive::OtherDrive;
 use super::page_builder::SetPage;
 use super::report::difference_text;
-use super::session::{event, load, power_on, read, read_status, security_in, security_out, write};
+use super::session::{event, load, power_on, read, read_status, security_in, security_out, serves, write};
 use super::{record_builder, Settings};
 use crate::stream::{kind, Command, Drive};
 
@@ -30,7 +30,9 @@ fn some_commands() -> Vec<Command> {
         write(3, true),
         read_status(vec![0; 24]),
         load(&record_builder::mixed()),
-        event(13),
+        serves(1),
+        event(14),
+        Command { length: 9, ..serves(0) },
         batch_of_two(),
         Command { argument: u16::MAX, ..batch_of_two() },
         security_in(0, 0x0012, 0),
@@ -147,11 +149,12 @@ fn part_commands() -> Vec<Vec<u8>> {
     for (command, cuts) in [
         (power_on(), &[1, 4, 7][..]),
         (read(3, 0, 255), &[1, 4, 7]),
+        (serves(1), &[1, 4, 7]),
         (security_out(3, SetPage::k().bytes()), &[8, 9, 59]),
         (batch_of_two(), &[7, 8, 9, 10, 26, 77]),
         (Command { argument: u16::MAX, ..batch_of_two() }, &[8, 77]),
         (read_status(vec![0; 24]), &[8, 31]),
-        (load(&record_builder::mixed()), &[8, 1000, 1324]),
+        (load(&record_builder::mixed()), &[8, 1000, 1325, 1364]),
     ] {
         let mut bytes = Vec::new();
         command.give(&mut bytes);

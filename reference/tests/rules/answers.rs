@@ -63,6 +63,7 @@ fn answer_1_comes_first_and_changes_nothing() {
     assert_eq!(controller.preempt(99), Err(refused));
     assert_eq!(controller.microcode(), Err(refused));
     assert_eq!(controller.vendor_release(99), Err(refused));
+    assert_eq!(controller.serves(99), Err(refused));
     assert_eq!(controller.record, record);
 }
 
@@ -169,6 +170,8 @@ fn answer_13_changes_nothing() {
     let before = controller.record.clone();
     assert_eq!(controller.vendor_release(5), Err(Refused::PlaceAbove4));
     assert_eq!(controller.vendor_release(0x0101), Err(Refused::PlaceAbove4));
+    assert_eq!(controller.serves(5), Err(Refused::PlaceAbove4));
+    assert_eq!(controller.serves(0x0101), Err(Refused::PlaceAbove4));
     assert_eq!(controller.record, before);
 }
 

@@ -1,4 +1,4 @@
-//! Tests of the reference against document 01, and requests 1 to 6, 8, 11 and 12 of document 02.
+//! Tests of the reference against document 01, and requests 1 to 8, 11 and 12 of document 02.
 
 #![forbid(unsafe_code)]
 
@@ -19,6 +19,7 @@ mod replay;
 mod response_pages;
 mod salvage;
 mod salvage_runs;
+mod selection_words;
 mod sent;
 mod status_page;
 mod stream;

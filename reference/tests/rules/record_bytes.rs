@@ -5,9 +5,11 @@ use reference::record::Record;
 use reference::record_bytes::{field_name, give, load, RECORD_BYTES};
 
 #[test]
-fn a_record_has_1317_bytes() {
-    assert_eq!(RECORD_BYTES, 1317);
-    assert_eq!(give(&Record::power_on()), vec![0; 1317]);
+fn a_record_has_1357_bytes() {
+    assert_eq!(RECORD_BYTES, 1357);
+    // 02, request 7: "at power-on 16 ones for place 0, zeros elsewhere"
+    let at_power_on = [&[0; 1317][..], &[0, 0, 0, 0, 0, 0, 0xFF, 0xFF], &[0; 32]].concat();
+    assert_eq!(give(&Record::power_on()), at_power_on);
 }
 
 #[test]
@@ -58,7 +60,8 @@ fn yes_or_no_bytes_above_1_are_refused() {
 #[test]
 fn other_lengths_are_refused() {
     let bytes = give(&mixed());
-    assert_eq!(load(&bytes[..1316]), None);
+    assert_eq!(load(&bytes[..1356]), None);
+    assert_eq!(load(&bytes[..1317]), None);
     assert_eq!(load(&[&bytes[..], &[0]].concat()), None);
     assert_eq!(load(&[]), None);
 }
@@ -79,4 +82,21 @@ fn fields_stand_in_the_order_of_the_design() {
     assert_eq!(bytes[1108..1110], [0x0A, 0x0B]);
     assert_eq!(bytes[1306..1310], [0x0C, 0x0D, 0x0E, 0x0F]);
     assert_eq!(bytes[1316], 1);
+}
+
+#[test]
+fn the_words_come_last_eight_bytes_a_place() {
+    let mut record = Record::power_on();
+    record.selection_words = [0x0102_0304_0506_0708, 0x09, 0, u64::MAX, 0x8000_0000_0000_0001];
+    let bytes = give(&record);
+    assert_eq!(bytes[..1317], [0; 1317]);
+    assert_eq!(bytes[1317..1325], [1, 2, 3, 4, 5, 6, 7, 8]);
+    assert_eq!(bytes[1325..1341], [0, 0, 0, 0, 0, 0, 0, 9, 0, 0, 0, 0, 0, 0, 0, 0]);
+    assert_eq!(bytes[1341..1349], [0xFF; 8]);
+    assert_eq!(bytes[1349..], [0x80, 0, 0, 0, 0, 0, 0, 1]);
+    assert_eq!(load(&bytes), Some(record));
+    let names: Vec<String> = [1316, 1317, 1324, 1325, 1356].map(field_name).to_vec();
+    let expected = ["nexus 15, flag \"vendor event\"", "place 0, selection word", "place 0, selection word"];
+    assert_eq!(names[..3], expected);
+    assert_eq!(names[3..], ["place 1, selection word", "place 4, selection word"]);
 }

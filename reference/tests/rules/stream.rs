@@ -4,7 +4,7 @@ use crate::given::k;
 use reference::comparison::record_builder::mixed;
 use reference::comparison::session::{
     batch, event, give_record, load, load_bytes, power_on, read, read_status, security_in, security_out,
-    write,
+    serves, write,
 };
 use reference::record_bytes::give;
 use reference::stream::{serve, Command, Drive};
@@ -93,9 +93,9 @@ fn the_status_reader_gives_57_bytes() {
 #[test]
 fn records_are_taken_and_given() {
     let bytes = give(&mixed());
-    let given = replies_to(&[load(&mixed()), load_bytes(vec![2; 1317]), load_bytes(vec![]), give_record()]);
+    let given = replies_to(&[load(&mixed()), load_bytes(vec![2; 1357]), load_bytes(vec![]), give_record()]);
     assert_eq!(given[..18], [0, 0, 0, 0, 0, 0, 1, 0, 0, 0, 0, 0, 1, 0, 0, 0, 0, 0]);
-    assert_eq!(given[18..24], [0, 0, 0, 0, 0x05, 0x25]);
+    assert_eq!(given[18..24], [0, 0, 0, 0, 0x05, 0x4D]);
     assert_eq!(given[24..], bytes);
 }
 
@@ -106,13 +106,53 @@ fn a_record_that_is_not_well_formed_is_taken_and_given_and_refused() {
     let given =
         replies_to(&[load_bytes(bytes.clone()), write(0, true), give_record(), power_on(), write(0, true)]);
     assert_eq!(given[..12], [0, 0, 0, 0, 0, 0, 1, 0, 0, 0, 0, 0]);
-    assert_eq!(given[18..1335], bytes);
-    assert_eq!(given[1335..], [0, 0, 0, 0, 0, 0, 0, 0, 0, 0, 0, 3, 0, 0, 0]);
+    assert_eq!(given[18..1375], bytes);
+    assert_eq!(given[1375..], [0, 0, 0, 0, 0, 0, 0, 0, 0, 0, 0, 3, 0, 0, 0]);
+}
+
+#[test]
+fn kind_13_gives_the_word_of_a_place() {
+    let mut bytes = Vec::new();
+    serves(1).give(&mut bytes);
+    assert_eq!(bytes, [13, 0, 0, 1, 0, 0, 0, 0]);
+    let given =
+        replies_to(&[security_out(3, k()), serves(0), serves(1), serves(4), serves(5), serves(0x0100)]);
+    let expected = [
+        &[0; 6][..],
+        &[0, 0, 0, 0, 0, 8, 0, 0, 0, 0, 0, 0, 0xFF, 0xF7],
+        &[0, 0, 0, 0, 0, 8, 0, 0, 0, 0, 0, 0, 0, 8],
+        &[0, 0, 0, 0, 0, 8, 0, 0, 0, 0, 0, 0, 0, 0],
+        &[13, 0, 0, 0, 0, 0],
+        &[13, 0, 0, 0, 0, 0],
+    ];
+    assert_eq!(given, expected.concat());
+}
+
+#[test]
+fn kind_13_ignores_nexus_protocol_port_and_length() {
+    let sent = [load(&mixed()), serves(2), give_record()];
+    let expected = replies_to(&sent);
+    // nexus 4 has something pending, nexus 3 isn't registered
+    for (nexus, protocol, port, length) in [(4, 0x20, 0, 0), (3, 0x20, 1, 8), (16, 0x21, 255, 0xFFFF)] {
+        let command = Command { nexus, protocol, port, length, ..serves(2) };
+        assert_eq!(replies_to(&[sent[0].clone(), command, sent[2].clone()]), expected);
+    }
+}
+
+#[test]
+fn kind_13_asks_for_a_well_formed_record_first() {
+    let mut bytes = give(&mixed());
+    bytes[1356] ^= 1;
+    let given =
+        replies_to(&[load_bytes(bytes.clone()), serves(0), serves(5), give_record(), power_on(), serves(0)]);
+    assert_eq!(given[..18], [0, 0, 0, 0, 0, 0, 1, 0, 0, 0, 0, 0, 1, 0, 0, 0, 0, 0]);
+    assert_eq!(given[24..1381], bytes);
+    assert_eq!(given[1381..], [0, 0, 0, 0, 0, 0, 0, 0, 0, 0, 0, 8, 0, 0, 0, 0, 0, 0, 0xFF, 0xFF]);
 }
 
 #[test]
 fn unknown_kinds_have_no_data() {
-    let unknown = Command { length: 500, ..event(13) };
+    let unknown = Command { length: 500, ..event(14) };
     assert_eq!(replies_to(&[unknown, event(252)]), [255, 0, 0, 0, 0, 0, 255, 0, 0, 0, 0, 0]);
 }
 

@@ -5,10 +5,11 @@ use reference::comparison::record_builder::{full, mixed, without_all_nexus};
 use reference::record::Record;
 use reference::well_formed::{broken_clauses, is_well_formed, Clause};
 
-/// The clauses broken by a change of the record of many kinds of set.
+/// The clauses broken by a change of the record of many kinds of set; its words are those that the scopes then say.
 fn after(change: impl Fn(&mut Record)) -> Vec<Clause> {
     let mut record = mixed();
     change(&mut record);
+    record.put_words_right();
     broken_clauses(&record)
 }
 
@@ -80,4 +81,39 @@ fn empty_places() {
     assert_eq!(after(|record| record.places[3].ckod = true), [Clause::EmptyPlaceZero]);
     assert_eq!(after(|record| record.places[3].key[31] = 1), [Clause::EmptyPlaceZero]);
     assert_eq!(after(|record| record.places[3].u_kad.length = 1), [Clause::EmptyPlaceZero]);
+}
+
+#[test]
+fn words() {
+    // ALL nexus 9 in place 0, nexuses 0, 3 and 15 LOCAL in places 1, 2 and 4
+    assert_eq!(mixed().selection_words, [0x7FF6, 0x0001, 0x0008, 0, 0x8000]);
+    for record in [Record::power_on(), mixed(), without_all_nexus(), full([4, 3, 2, 1])] {
+        for place in 0..5 {
+            for bit in 0..64 {
+                let mut wrong = record.clone();
+                wrong.selection_words[place] ^= 1 << bit;
+                assert_eq!(
+                    broken_clauses(&wrong),
+                    [Clause::WordsAsTheScopesSay],
+                    "bit {bit} of place {place}"
+                );
+            }
+        }
+    }
+    for words in [
+        [0xFFFF, 0, 0, 0, 0],
+        [0, 0x0001, 0x0008, 0, 0x8000],
+        [0x0200, 0x0001, 0x0008, 0, 0x8000],
+        [0x7FF6, 0x0008, 0x0001, 0, 0x8000],
+        [0x7FF4, 0x0001, 0x0008, 0x0002, 0x8000],
+        [0xFFFF, 0x0001, 0x0008, 0, 0x8000],
+        [0; 5],
+    ] {
+        let wrong = Record { selection_words: words, ..mixed() };
+        assert_eq!(broken_clauses(&wrong), [Clause::WordsAsTheScopesSay], "{words:X?}");
+    }
+    // the words of before where a scope was changed
+    let mut record = mixed();
+    record.nexuses[3].scope = scope::PUBLIC;
+    assert_eq!(broken_clauses(&record), [Clause::UsedPlaceOwnedByLocalNexus, Clause::WordsAsTheScopesSay]);
 }

@@ -86,6 +86,59 @@ fn a_bridge_boards_batch_is_told_event_by_event() {
 }
 
 #[test]
+fn whom_each_set_serves_is_told_in_words() {
+    let (_, told, _) = demo(Path::new(ROOT));
+    let lines = told.lines().filter_map(|line| line.strip_prefix("    place "));
+    let served: Vec<&str> = lines.collect();
+    let after_p5 = [
+        "0 serves nexuses 0, 5 to 15",
+        "1 serves nexus 4",
+        "2 serves nexus 1",
+        "3 serves nexus 2",
+        "4 serves nexus 3",
+    ];
+    let after_p7 = [
+        "0 serves nexuses 0 to 15",
+        "1 serves nobody",
+        "2 serves nobody",
+        "3 serves nobody",
+        "4 serves nobody",
+    ];
+    assert_eq!(served, [after_p5, after_p7].concat());
+}
+
+#[test]
+fn a_drive_that_tells_another_word_or_none_differs() {
+    let another: fn(&mut Reply) = |reply| {
+        if reply.served().is_some() {
+            reply.data[0] = 1;
+        }
+    };
+    let other_order: fn(&mut Reply) = |reply| {
+        if reply.served().is_some() {
+            reply.data.reverse();
+        }
+    };
+    let none: fn(&mut Reply) = |reply| {
+        if reply.served().is_some() {
+            *reply = Reply { number: 255, sense: [0; 3], data: Vec::new() };
+        }
+    };
+    // of zeros the order of bytes doesn't show
+    for (name, change, differing) in
+        [("demo another word", another, 10), ("demo other order", other_order, 6), ("demo no word", none, 10)]
+    {
+        let (status, told, _) = demo_with(name, change);
+        assert_eq!(
+            (status, told.matches("DIFFERS: document 02 says place").count()),
+            (1, differing),
+            "{told}"
+        );
+        assert!(told.ends_with("\nP5, P7: not as documents 01 and 02 say\n"), "{name}: {told}");
+    }
+}
+
+#[test]
 fn wrong_fields_are_told_by_name() {
     let (_, told, _) = demo(Path::new(ROOT));
     let scenes: Vec<&str> = told.split("\n\n").filter(|scene| scene.starts_with('F')).collect();

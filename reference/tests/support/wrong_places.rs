@@ -152,6 +152,7 @@ fn give(moment: &mut Moment, place: usize) {
     record.nexuses[nexus] = sent;
     record.nexuses[nexus].last_local = number;
     record.nexuses[nexus].saved_at_lock = if sent.lock { number } else { before.saved_at_lock };
+    record.put_words_right();
     flag_changes(moment.before, &mut record, nexus);
     *moment.after = record;
     *moment.reply = Reply { number: 0, sense: NO_SENSE, data: Vec::new() };
@@ -164,6 +165,7 @@ fn release(record: &mut Record, place: usize) {
         record.nexuses[owner].scope = scope::PUBLIC;
         record.counter = record.counter.wrapping_add(1);
         record.places[place] = Set::empty(record.counter);
+        record.put_words_right();
     }
 }
 

@@ -3,7 +3,8 @@ use borrow.Author.Tests.{not-true, not-false}
 use mathlib.Core.Bool.{Bool}
 use mathlib.Core.Path.{sym, ap, ap₂, _∙_}
 use Rattle.answer.specs.declared.Change.{Change}
-use Rattle.calls.specs.Quiet.{keepsMarks, quietBy}
+use Rattle.marks.specs.Marks.{keepsMarks}
+use Rattle.calls.specs.Quiet.{quietBy}
 use Rattle.calls.specs.declared.Quiet.{Quiet}
 use Rattle.calls_code.proofs.quiet_by.Statement.{statement}
 use Rattle.calls_code.proofs.quiet_by.Tie as tie

@@ -8,7 +8,7 @@ use lib.ListN.{length, length-drop}
 use denote.Ref.{now}
 use Rattle.wire.proofs.Stores.{part-rest}
 use Rattle.sizes_16.specs.Sizes.{nexusCount}
-use Rattle.device_16.specs.Model.{state}
+use Rattle.device_16.specs.Model.{state, worded}
 use Rattle.recording.specs.Entries.{calls}
 use Rattle.calls_16.specs.Sights.{sighted}
 use Rattle.session.proofs.Folds.{adds-ends}
@@ -22,7 +22,7 @@ use Rattle.claim_16.proofs.tally.Statement.{statement}
 use Rattle.claim_16.proofs.tally.Tie as tie
 
 abbrev Inv-loop : tie.InvT-loop
-Inv-loop events pages after₀ rows₀ rest₀ after rows rest = Tallying pages events (state after) rows rest
+Inv-loop events pages after₀ rows₀ rest₀ after rows rest = Tallying pages events (worded after) rows rest
 
 abbrev μ-loop : tie.MeasureT-loop
 μ-loop events pages after₀ rows₀ rest₀ after rows rest = length rest
@@ -35,7 +35,7 @@ tally-spec =
     Inv-loop
     μ-loop
     (λ c κs. search needs)
-    (λ c. tally-starts (now (c .before .before .before .args .pages)) (now (c .before .before .before .args .events)) (ap state (c .power-on .ensures)) refl)
+    (λ c. tally-starts (now (c .before .before .before .args .pages)) (now (c .before .before .before .args .events)) (ap worded (c .power-on .ensures)) refl)
     (λ c κs. search needs)
     (λ c κs. search needs)
     (λ c κs. search needs)
@@ -59,13 +59,13 @@ tally-spec =
     let asked = c .before .before .before .before .before .before .before .before .asked-of .ensures in
     let number = c .before .before .before .before .before .before .before .sender-number .ensures in
     let sight = c .before .before .before .before .before .before .look .ensures in
-    let found = event-found true (state (l .after)) rest (l .inv .plays .nexuses) e asked number sight (c .before .before .before .before .before .quietly .ensures) in
-    let f : Found (state (l .after)) rest (c .before .before .before .before .before .before .before .before .before .entry-of .result) (c .before .before .before .before .before .before .before .before .asked-of .result) (c .before .before .before .before .before .before .look .result) (c .before .before .before .before .before .quietly .result) (c .before .before .before .before .became .result) =
-    record { entry = e; asks = asked; sighting = sight ∙ ap (sighted (state (l .after))) number; finding = found; became = c .before .before .before .before .became .ensures } in
+    let found = event-found true (state (l .after .device)) rest (l .inv .plays .knows .nexuses) e asked number sight (c .before .before .before .before .before .quietly .ensures) in
+    let f : Found (state (l .after .device)) rest (c .before .before .before .before .before .before .before .before .before .entry-of .result) (c .before .before .before .before .before .before .before .before .asked-of .result) (c .before .before .before .before .before .before .look .result) (c .before .before .before .before .before .quietly .result) (c .before .before .before .before .became .result) =
+    record { entry = e; asks = asked; sighting = sight ∙ ap (sighted (state (l .after .device))) number; finding = found; became = c .before .before .before .before .became .ensures } in
     rw (part-rest rest 8)
     (⊎-elim
-    (λ w. call-tallied (l .inv) f here (c .before .before .before .note .ensures) (w .1 .ensures) (w .2 .ensures) (ap state (w .4)))
-    (λ w. quiet-tallied (l .inv) f here (c .before .before .before .note .ensures) (not-false _ (w .0 .left)) (ap state (w .1)))
+    (λ w. call-tallied (l .inv) f here (c .before .before .before .note .ensures) (w .1 .ensures) (w .2 .ensures) (ap worded (w .4)))
+    (λ w. quiet-tallied (l .inv) f here (c .before .before .before .note .ensures) (not-false _ (w .0 .left)) (ap worded (w .1)))
     (c .before .if1 .came)))
     (λ c.
     let a = c .before .before .before .before .before .args in

@@ -7,25 +7,26 @@ use Rattle.places.specs.declared.Room.{Room}
 use Rattle.device_16.specs.Model.{state, device}
 use Rattle.places_16.specs.Taking.{takenIn}
 use Rattle.places_16.proofs.Taking.{taken-in, no-place-asked}
-use Rattle.drive.specs.After.{changedBy, carriedOut}
+use Rattle.drive.specs.After.{changedBy}
+use Rattle.drive.specs.Records.{heldAfter}
 use Rattle.drive_16.proofs.accept.Statement.{statement}
 use Rattle.drive_16.proofs.accept.Tie as tie
 
 -- whether the page has no place, as the code found it
-tested : (c : tie.After-is-no-room) → let a = c .before .before .before .args in (c .before .needs-place .result && c .is-no-room .result) ≡ noPlace (state (a .d)) (a .n) (a .page)
+tested : (c : tie.After-is-no-room) → let a = c .before .before .before .args in (c .before .needs-place .result && c .is-no-room .result) ≡ noPlace (state (a .r .device)) (a .n) (a .page)
 tested c =
     let a = c .before .before .before .args in
-    simp (c .before .needs-place .ensures, c .is-no-room .ensures, c .before .before .room-asked .ensures) (no-place-asked (state (a .d)) (a .n) (a .page))
+    simp (c .before .needs-place .ensures, c .is-no-room .ensures, c .before .before .room-asked .ensures) (no-place-asked (state (a .r .device)) (a .n) (a .page))
 
 -- the page taken
-took : (c : tie.After-take-page) → let a = c .before .before .before .before .before .args in c .take-page .result ≡ device (taken (state (a .d)) (a .n) (a .page))
+took : (c : tie.After-take-page) → let a = c .before .before .before .before .before .args in c .take-page .result ≡ device (taken (state (a .r .device)) (a .n) (a .page))
 took c =
     let a = c .before .before .before .before .before .args in
-    c .take-page .ensures ∙ ap (λ (r : Room). device (takenIn (state (a .d)) (a .n) (a .page) r)) (c .before .before .before .before .room-asked .ensures)
-    ∙ ap device (taken-in (state (a .d)) (a .n) (a .page))
+    c .take-page .ensures ∙ ap (λ (r : Room). device (takenIn (state (a .r .device)) (a .n) (a .page) r)) (c .before .before .before .before .room-asked .ensures)
+    ∙ ap device (taken-in (state (a .r .device)) (a .n) (a .page))
 
 pub accept-spec : {M : Type 1} → statement M
-unfolding carriedOut changedBy
+unfolding heldAfter changedBy
 accept-spec =
     tie.close
     (tie.spec

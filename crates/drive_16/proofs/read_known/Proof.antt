@@ -10,7 +10,7 @@ use Rattle.device.specs.Record.{setAt}
 use Rattle.device.specs.Selecting.{selected, selectedSet}
 use Rattle.device.proofs.Selecting.{found}
 use Rattle.sizes_16.specs.Sizes.{nexusCount}
-use Rattle.device_16.specs.Model.{state, device}
+use Rattle.device_16.specs.Model.{state, worded}
 use Rattle.drive.specs.Calls.{read}
 use Rattle.drive.specs.Restoring.{restored}
 use Rattle.drive.specs.Checks.{firstOf, heardOf, checks, knownAnswer}
@@ -22,19 +22,19 @@ use Rattle.drive_16.proofs.read_known.Tie as tie
 
 -- what the call is answered
 abbrev given : tie.Start → Answer
-given s = knownAnswer (state (s .args .d)) (read (s .args .n) (s .args .block))
+given s = knownAnswer (state (s .args .r .device)) (read (s .args .n) (s .args .block))
 
 -- its checks: 2 to 4, then its own
 abbrev front : tie.Start → List Answer
-front s = heardOf (state (s .args .d)) (s .args .n)
+front s = heardOf (state (s .args .r .device)) (s .args .n)
 
 abbrev rest : tie.Start → List Answer
-rest s = restored (selectedSet (state (s .args .d)) (s .args .n)) (s .args .block) .answer ∷ []
+rest s = restored (selectedSet (state (s .args .r .device)) (s .args .n)) (s .args .block) .answer ∷ []
 
 heard-is : (c : tie.After-hear) → c .hear .result ≡ firstOf (front (c .before .before .before))
 heard-is c =
     let a = c .before .before .before .args in
-    let d = a .d in
+    let d = a .r .device in
     let l : length (d .nexuses) ≡ nexusCount = search (needs, sized-field) in
     heard-found (state d) (a .n) nexusCount _ _ l (c .before .before .nexus-at .ensures) (c .hear .ensures)
 
@@ -43,20 +43,20 @@ heard-first : (c : tie.Then1) → c .before .before .hear .result ≡ given (c .
 unfolding checks
 heard-first c =
     let s = c .before .before .before .before .before in
-    known-stops (state (s .args .d)) (read (s .args .n) (s .args .block)) (front s) (rest s) refl _ (heard-is (c .before .before))
+    known-stops (state (s .args .r .device)) (read (s .args .n) (s .args .block)) (front s) (rest s) refl _ (heard-is (c .before .before))
     (fault-told (c .before .is-done .ensures) (c .if1 .taken))
 
-selects : (c : tie.After-place-of) → let a = c .before .before .before .before .before .before .before .args in c .place-of .result ≡ selected (state (a .d)) (a .n)
+selects : (c : tie.After-place-of) → let a = c .before .before .before .before .before .before .before .args in c .place-of .result ≡ selected (state (a .r .device)) (a .n)
 selects c =
     let a = c .before .before .before .before .before .before .before .args in
-    found (state (a .d)) (a .n) _ _ (c .before .before .before .before .before .before .nexus-at .ensures) (c .place-of .ensures .0)
+    found (state (a .r .device)) (a .n) _ _ (c .before .before .before .before .before .before .nexus-at .ensures) (c .place-of .ensures .0)
 
 -- the ruling under the set that the code found
 ruling-is : (c : tie.After-restore) → let a = c .before .before .before .before .before .before .before .before .before .args in
-    c .restore .result ≡ restored (selectedSet (state (a .d)) (a .n)) (a .block)
+    c .restore .result ≡ restored (selectedSet (state (a .r .device)) (a .n)) (a .block)
 ruling-is c =
     let a = c .before .before .before .before .before .before .before .before .before .args in
-    c .restore .ensures ∙ ap (λ p. restored (setAt (state (a .d)) p) (a .block)) (selects (c .before .before))
+    c .restore .ensures ∙ ap (λ p. restored (setAt (state (a .r .device)) p) (a .block)) (selects (c .before .before))
 
 -- where they find none, the ruling's is
 answered : (c : tie.After-restore) → c .restore .result .answer ≡ given (c .before .before .before .before .before .before .before .before .before)
@@ -64,7 +64,7 @@ unfolding checks
 answered c =
     let h = c .before .before .before .before .before .before in
     let s = h .before .before .before in
-    known-passes (state (s .args .d)) (read (s .args .n) (s .args .block)) (front s) (rest s) refl _ _ (heard-is h)
+    known-passes (state (s .args .r .device)) (read (s .args .n) (s .args .block)) (front s) (rest s) refl _ _ (heard-is h)
     (done-told (c .before .before .before .before .before .is-done .ensures) (c .before .before .before .before .if1 .left))
     (ap (λ v. v .answer) (ruling-is c) ∙ sym (last-is _))
 
@@ -77,7 +77,7 @@ read-known-spec =
     (λ c κs. search needs)
     (λ c κs. search needs)
     (λ c. let a = c .before .before .before .before .before .before .args in
-    c .refuse-read .ensures ∙ read-refused (state (a .d)) (a .n) (a .block) _ (fault-told (c .before .before .is-done .ensures) (c .before .if1 .taken)) ∙ ap (readOutcomeBy (state (a .d)) (a .n) (a .block)) (heard-first (c .before)))
+    c .refuse-read .ensures ∙ read-refused (worded (a .r)) (a .n) (a .block) _ (fault-told (c .before .before .is-done .ensures) (c .before .if1 .taken)) ∙ ap (readOutcomeBy (worded (a .r)) (a .n) (a .block)) (heard-first (c .before)))
     (λ c κs. search needs)
     (λ c. search needs)
     (λ c. search needs)
@@ -86,10 +86,10 @@ read-known-spec =
     (λ c κs. search needs)
     (λ c. let ruling = c .before .before .before in
     let a = ruling .before .before .before .before .before .before .before .before .before .args in
-    c .refuse-read2 .ensures ∙ read-refused (state (a .d)) (a .n) (a .block) _ (fault-told (c .before .before .is-done2 .ensures) (c .before .if2 .taken)) ∙ ap (readOutcomeBy (state (a .d)) (a .n) (a .block)) (answered ruling))
+    c .refuse-read2 .ensures ∙ read-refused (worded (a .r)) (a .n) (a .block) _ (fault-told (c .before .before .is-done2 .ensures) (c .before .if2 .taken)) ∙ ap (readOutcomeBy (worded (a .r)) (a .n) (a .block)) (answered ruling))
     (λ c. let ruling = c .before .before in
     let a = ruling .before .before .before .before .before .before .before .before .before .args in
     let v = ruling-is ruling in
     let p = selects (ruling .before .before) in
-    (λ i. record { device = device (state (a .d)); answer = ruling .restore .result .answer; sense = senseOf Done; decision = v i .decision; place = p i })
-    ∙ read-done (state (a .d)) (a .n) (a .block) _ (done-told (c .before .is-done2 .ensures) (c .if2 .left)) ∙ ap (readOutcomeBy (state (a .d)) (a .n) (a .block)) (answered ruling)))
+    (λ i. record { after = a .r; answer = ruling .restore .result .answer; sense = senseOf Done; decision = v i .decision; place = p i })
+    ∙ read-done (worded (a .r)) (a .n) (a .block) _ (done-told (c .before .is-done2 .ensures) (c .if2 .left)) ∙ ap (readOutcomeBy (worded (a .r)) (a .n) (a .block)) (answered ruling)))

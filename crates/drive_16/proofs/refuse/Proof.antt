@@ -8,4 +8,4 @@ refuse-spec =
     (tie.spec
     (λ c κs. search needs)
     (λ c κs. search needs)
-    (λ c. simp (c .change-marks .ensures, c .before .before .row-of .ensures)))
+    (λ c. simp (c .change-marks-in .ensures, c .before .before .row-of .ensures)))

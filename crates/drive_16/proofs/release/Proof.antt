@@ -1,10 +1,10 @@
 use borrow.Author.Needs.{needs}
-use Rattle.drive.specs.After.{changedBy, carriedOut}
+use Rattle.drive.specs.After.{changedBy}
 use Rattle.drive_16.proofs.release.Statement.{statement}
 use Rattle.drive_16.proofs.release.Tie as tie
 
 pub release-spec : {M : Type 1} → statement M
-unfolding carriedOut changedBy
+unfolding changedBy
 release-spec =
     tie.close
     (tie.spec

@@ -15,9 +15,9 @@ load-spec =
     (λ c.
     let compared = c .before in
     let written = compared .before .before in
-    load-takes (now (written .before .before .before .args .bytes)) (written .before .device-of .ensures) (written .record-bytes .ensures) (compared .is-same .ensures) (c .if1 .taken))
+    load-takes (now (written .before .before .before .args .bytes)) (written .before .record-of .ensures) (written .record-bytes .ensures) (compared .is-same .ensures) (c .if1 .taken))
     (λ c κs. search needs)
     (λ c.
     let compared = c .before .before in
     let written = compared .before .before in
-    load-refuses (now (written .before .before .before .args .bytes)) (written .before .device-of .ensures) (written .record-bytes .ensures) (compared .is-same .ensures) (c .before .if1 .left) (c .power-on .ensures)))
+    load-refuses (now (written .before .before .before .args .bytes)) (written .before .record-of .ensures) (written .record-bytes .ensures) (compared .is-same .ensures) (c .before .if1 .left) (c .power-on .ensures)))

@@ -4,7 +4,7 @@ use native.Mathlib.Omega.{arith}
 use lib.ListN.{length}
 use Rattle.record.specs.Bytes.{recordSize}
 use Rattle.sizes_16.specs.Sizes.{nexusCount, placeCount}
-use Rattle.device_16.specs.Model.{state}
+use Rattle.device_16.specs.Model.{worded}
 use Rattle.reply_16.proofs.Giving.{given-as}
 use Rattle.reply_16.proofs.Tools.{record-given}
 use Rattle.reply_16.proofs.give_record.Statement.{statement}
@@ -25,4 +25,4 @@ give-record-spec =
     (λ c.
     let gave = c .before .before in
     let made = gave .before .before .before in
-    given-as (record-given (state (made .before .before .args .d)) (made .record-bytes .ensures)) (gave .give .ensures)))
+    given-as (record-given (worded (made .before .before .args .r)) (made .record-bytes .ensures)) (gave .give .ensures)))

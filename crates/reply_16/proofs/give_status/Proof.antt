@@ -5,7 +5,7 @@ use native.Mathlib.Omega.{arith}
 use borrow.Author.Tests.{not-true, not-false}
 use denote.Ref.{now}
 use lib.ListN.{length}
-use Rattle.device_16.specs.Model.{state}
+use Rattle.device_16.specs.Model.{worded}
 use Rattle.reply_16.proofs.Tools.{status-refused, status-given}
 use Rattle.reply_16.proofs.give_status.Statement.{statement}
 use Rattle.reply_16.proofs.give_status.Tie as tie
@@ -28,7 +28,7 @@ give-status-spec =
     let tested = stopped .before in
     let got = tested .before .before in
     let a = got .before .before .before .args in
-    status-refused (state (a .d)) (now (a .page)) (got .read-status .ensures) (sym (tested .is-done .ensures) ∙ not-true _ (stopped .if1 .taken)) (gave .point .ensures))
+    status-refused (worded (a .r)) (now (a .page)) (got .read-status .ensures) (sym (tested .is-done .ensures) ∙ not-true _ (stopped .if1 .taken)) (gave .point .ensures))
     (λ c κs. search needs)
     (λ c κs. search needs)
     (λ c. search needs)
@@ -49,5 +49,5 @@ give-status-spec =
     let got = tested .before .before in
     let a = got .before .before .before .args in
     let size : length (values .values-head .result) ≡ 11 = ap length (values .values-head .ensures) in
-    status-given (state (a .d)) (now (a .page)) (got .read-status .ensures) (now (a .buffer)) 17 57 (sym (tested .is-done .ensures) ∙ not-false _ (passed .if1 .left))
+    status-given (worded (a .r)) (now (a .page)) (got .read-status .ensures) (now (a .buffer)) 17 57 (sym (tested .is-done .ensures) ∙ not-false _ (passed .if1 .left))
     (values .values-head .ensures) (kads .kads-bytes .ensures) (ap (λ j. 6 + j) size) (omega (arith, size, sized kads)) (omega arith) (first .put .ensures) (second .put2 .ensures) (c .reply-with .ensures)))

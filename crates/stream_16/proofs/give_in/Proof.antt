@@ -4,7 +4,7 @@ use mathlib.Core.Path.{_≡_}
 use native.Mathlib.Omega.{arith}
 use denote.Ref.{now}
 use lib.ListN.{length}
-use Rattle.device_16.specs.Model.{state}
+use Rattle.device_16.specs.Model.{worded}
 use Rattle.command.specs.Requests.{lentMost}
 use Rattle.reply_16.specs.Giving.{inFrom, replyMost}
 use Rattle.stream_16.proofs.Lending.{in-given}
@@ -37,4 +37,4 @@ give-in-spec =
     let long : replyMost ≤ length (now (a .buffer)) = search needs in
     let small : a .size ≤ lentMost = search needs in
     let same : inFrom + a .size - inFrom ≡ a .size = omega arith in
-    in-given (state (a .d)) (a .command) (a .size) (inFrom + a .size - inFrom) (now (a .buffer)) long small same (e .0) (e .1) (told .two .ensures) (put .put .ensures) (c .reply-with .ensures)))
+    in-given (worded (a .r)) (a .command) (a .size) (inFrom + a .size - inFrom) (now (a .buffer)) long small same (e .0) (e .1) (told .two .ensures) (put .put .ensures) (c .reply-with .ensures)))

@@ -1,5 +1,5 @@
 use borrow.Author.Needs.{needs}
-use mathlib.Core.Path.{_≡_, sym, ap, ap₂, _∙_}
+use mathlib.Core.Path.{sym, ap, ap₂, _∙_}
 use mathlib.Core.Bool.{Bool}
 use denote.Ref.{now}
 use Rattle.device_16.specs.Model.{state}
@@ -19,7 +19,7 @@ follow-call-spec =
     (λ c.
     let a = c .before .before .before .before .before .before .args in
     let s = state (a .d) in
-    let t = state (a .outcome .device) in
+    let t = state (a .outcome .after .device) in
     let power = c .before .before .is-power-on .ensures ∙ sym (is-power (a .asked) (now (a .page))) in
     c .follow-flags .ensures
     ∙ ap (flaggedBy (a .n) (a .i) s t) (c .before .follow-lock .ensures ∙ ap₂ (λ (lock p : Bool). lockedBy lock p (a .n) (a .i) s t (a .w)) (c .before .before .before .is-lock .ensures) power)))

@@ -87,6 +87,7 @@ fn order_of_checks(sink: &mut Sink) {
         record.nexuses[6].changed_by_vendor_event = true;
         let mut not_well_formed = record.clone();
         not_well_formed.nexuses[5].scope = scope::LOCAL;
+        not_well_formed.put_words_right();
         for record in [record, not_well_formed] {
             let mut stage = Stage::new("CEEM and other answers", record, sink);
             for nexus in [16, 6, 6, 6, 5, 2, 9] {

@@ -55,6 +55,7 @@ fn record(chosen: usize, pattern: usize, variety: usize) -> Record {
         }
         _ => {}
     }
+    record.put_words_right();
     record
 }
 

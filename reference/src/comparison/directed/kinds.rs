@@ -4,9 +4,10 @@
 use crate::comparison::page_builder::{set_length, SetPage};
 use crate::comparison::record_builder::{full, mixed};
 use crate::comparison::session::{
-    event, event_of, load_bytes, power_on, read, read_status, security_in, security_out, vendor_release,
-    write, Session, Sink, Stage,
+    event, event_of, load, load_bytes, power_on, read, read_status, security_in, security_out, serves,
+    vendor_release, write, Session, Sink, Stage,
 };
+use crate::record::Record;
 use crate::stream::{kind, Command};
 
 pub fn sessions(sink: &mut Sink) {
@@ -17,13 +18,13 @@ pub fn sessions(sink: &mut Sink) {
     largest_data(sink);
 }
 
-/// Kinds 13 to 252 are unknown; so are a support flag above 1 and a lent buffer above the limit.
+/// Kinds 14 to 252 are unknown; so are a support flag above 1 and a lent buffer above the limit.
 fn unknown_kinds(sink: &mut Sink) {
     let mut stage = Stage::new("unknown kinds", mixed(), sink);
-    for kind in 13..=252 {
+    for kind in 14..=252 {
         stage.call(event_of(kind, 3));
     }
-    stage.call(Command { length: 40, ..event(13) });
+    stage.call(Command { length: 40, ..event(14) });
     for argument in [2, 3, 0x0100, 0xFFFF] {
         stage.call(Command { argument, ..write(3, true) });
     }
@@ -47,6 +48,7 @@ fn nexuses(sink: &mut Sink) {
     }
     for place in (0..=300).chain([0x0400, 0x0401, 0x8000, 0xFFFF]) {
         stage.call(vendor_release(place));
+        stage.call(serves(place));
     }
     stage.finish();
 }
@@ -90,10 +92,11 @@ fn unread_fields(sink: &mut Sink) {
         stage.call(Command { argument, protocol, length, ..event });
     }
     stage.call(Command { nexus, protocol, length, ..vendor_release(2) });
+    stage.call(Command { nexus, protocol, length, ..serves(2) });
     stage.call(Command { protocol, length, ..write(1, true) });
     stage.call(Command { protocol, length, ..read(1, 1, 0) });
     stage.call(Command { nexus, argument, protocol, ..read_status(vec![0; 24]) });
-    stage.call(Command { nexus, argument, protocol, ..load_bytes(vec![0; 1317]) });
+    stage.call(Command { nexus, argument, protocol, ..load(&Record::power_on()) });
     stage.finish();
 }
 

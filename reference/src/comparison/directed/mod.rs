@@ -17,6 +17,7 @@ mod read_checks;
 mod reads;
 mod records;
 mod restoring;
+mod selection_words;
 mod status;
 mod writes;
 
@@ -34,6 +35,7 @@ pub fn sessions(sink: &mut Sink) {
     faulty_bytes::sessions(sink);
     sessions_for_recordings(sink);
     local_places::sessions(sink);
+    selection_words::sessions(sink);
 }
 
 /// The directed sessions of which recordings are made too.

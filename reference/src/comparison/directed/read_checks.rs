@@ -4,6 +4,7 @@ use crate::codes::scope;
 use crate::comparison::record_builder::{full, mixed, supply, without_all_nexus};
 use crate::comparison::session::{load, power_on, read, Session, Sink, Stage};
 use crate::record::{Record, Set};
+use crate::selection_words::bit;
 use crate::sizes::PLACES;
 
 pub fn sessions(sink: &mut Sink) {
@@ -22,10 +23,10 @@ fn all_pending(mut record: Record) -> Record {
 }
 
 /// A change that breaks a clause of well-formedness.
-pub type Change = fn(&mut Record);
+type Change = fn(&mut Record);
 
-/// Each clause broken, in the record of many kinds of set.
-pub const CHANGES: [Change; 22] = [
+/// Each clause of the sets and the nexuses broken, in the record of many kinds of set.
+const CHANGES: [Change; 22] = [
     |record| record.places[1].scope = 3,
     |record| record.places[1].encryption = 3,
     |record| record.places[4].decryption = 4,
@@ -56,15 +57,29 @@ pub const CHANGES: [Change; 22] = [
     },
 ];
 
+/// Records that break a clause of the sets and the nexuses, with the words that their scopes say.
+pub fn not_well_formed_but_for_words() -> Vec<Record> {
+    let broken = |change: Change| {
+        let mut record = mixed();
+        change(&mut record);
+        record.put_words_right();
+        record
+    };
+    CHANGES.map(broken).to_vec()
+}
+
+/// Records that break each clause, the words' own last.
+pub fn not_well_formed_records() -> Vec<Record> {
+    let mut wrong_word = mixed();
+    wrong_word.selection_words[3] = bit(5);
+    [not_well_formed_but_for_words(), vec![wrong_word]].concat()
+}
+
 /// 1 comes before 2, 3, 4 and 14, and whatever the read would be.
 fn not_well_formed(sink: &mut Sink) {
-    for change in CHANGES {
+    for broken in not_well_formed_records() {
         for waiting in [false, true] {
-            let mut record = mixed();
-            change(&mut record);
-            if waiting {
-                record = all_pending(record);
-            }
+            let record = if waiting { all_pending(broken.clone()) } else { broken.clone() };
             let mut stage = Stage::new("reads on a record that isn't well formed", record, sink);
             for call in [read(3, 1, 0), read(6, 0, 255), read(3, 3, 9), read(16, 0, 255), read(255, 9, 9)] {
                 stage.call(call);

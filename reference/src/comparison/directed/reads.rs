@@ -4,6 +4,7 @@
 use crate::comparison::record_builder::{full, mixed, settle, supply};
 use crate::comparison::session::{read, Sink, Stage};
 use crate::record::{Kad, Record, Set};
+use crate::record_bytes::RECORD_BYTES;
 use crate::sizes::{KEY_BYTES, PLACES, SUPPLEMENTAL_KEYS};
 use crate::stream::Command;
 
@@ -117,7 +118,7 @@ fn unread_fields(sink: &mut Sink) {
         (0, 0, 1),
         (0, 0, 2),
         (0, 0, 8),
-        (0, 0, 1317),
+        (0, 0, RECORD_BYTES as u16),
         (0, 0, 0xFFFF),
         (0x99, 0x77, 0x4321),
     ];

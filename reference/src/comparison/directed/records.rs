@@ -1,14 +1,15 @@
-//! Records one byte away from well formed, records with two bytes exchanged, and records of other lengths; each
-//! met by a call.
+//! Records one byte away from well formed, records with other scopes and owners, and records of other lengths; each met by
+//! a call. The words are those that the scopes then say, and where these are others those from before as well.
 
 use crate::codes::scope;
 use crate::comparison::page_builder::SetPage;
 use crate::comparison::record_builder::{full, mixed, settle_all, without_all_nexus};
 use crate::comparison::session::{
-    event, event_of, load_bytes, power_on, security_in, security_out, vendor_release, write, Session, Sink,
+    event, event_of, load_bytes, power_on, security_in, security_out, serves, vendor_release, write, Session,
+    Sink,
 };
 use crate::record::{Record, Set};
-use crate::record_bytes::{self, COUNTER_BYTES, NEXUS_BYTES, PLACE_BYTES};
+use crate::record_bytes::{self, COUNTER_BYTES, NEXUS_BYTES, PLACE_BYTES, WORDS_START};
 use crate::sizes::{NEXUSES, PLACES};
 use crate::stream::{kind, Command};
 
@@ -31,12 +32,15 @@ fn calls() -> Vec<Command> {
         security_out(5, SetPage::public(true).bytes()),
         write(16, false),
         vendor_release(5),
+        serves(0),
+        serves(3),
+        serves(5),
     ]
 }
 
 pub fn sessions(sink: &mut Sink) {
     let mut records = one_byte_away();
-    records.extend(scopes_and_owners());
+    records.extend(scopes_and_owners().iter().flat_map(with_both_words));
     records.extend(other_lengths());
     let calls = calls();
     let mut turn = 0;
@@ -49,6 +53,17 @@ pub fn sessions(sink: &mut Sink) {
         }
         sink(Session { name: "records near well formed".to_string(), commands });
     }
+}
+
+/// The bytes of a record with the words that its scopes say and, if these are others, with those that it has.
+fn with_both_words(record: &Record) -> Vec<Vec<u8>> {
+    let mut right = record.clone();
+    right.put_words_right();
+    let mut both = vec![record_bytes::give(&right)];
+    if right != *record {
+        both.push(record_bytes::give(record));
+    }
+    both
 }
 
 /// The records that bytes are changed of.
@@ -67,7 +82,10 @@ fn one_byte_away() -> Vec<Vec<u8>> {
             for value in values(at, bytes[at]) {
                 let mut changed = bytes.clone();
                 changed[at] = value;
-                records.push(changed);
+                match record_bytes::load(&changed) {
+                    Some(record) if at < WORDS_START => records.extend(with_both_words(&record)),
+                    _ => records.push(changed),
+                }
             }
         }
     }
@@ -96,12 +114,13 @@ pub fn is_bulk(at: usize) -> bool {
     if at < PLACES * PLACE_BYTES {
         return matches!(at % PLACE_BYTES, 5..=8 | 14..=45 | 47..=174 | 176..=207 | 209..);
     }
-    matches!((at - PLACES * PLACE_BYTES) % NEXUS_BYTES, 2..=9)
+    let at = at - PLACES * PLACE_BYTES;
+    at < NEXUSES * NEXUS_BYTES && matches!(at % NEXUS_BYTES, 2..=9)
 }
 
 /// Every scope of every nexus and place, and every owner, in records of each kind: relations more than one byte
 /// can break.
-fn scopes_and_owners() -> Vec<Vec<u8>> {
+fn scopes_and_owners() -> Vec<Record> {
     let mut records = Vec::new();
     for base in bases() {
         for place in 0..PLACES {
@@ -113,14 +132,14 @@ fn scopes_and_owners() -> Vec<Vec<u8>> {
                     if record.places[place].index == 0 && scope != 0 {
                         record.places[place].index = 1;
                     }
-                    records.push(record_bytes::give(&record));
+                    records.push(record.clone());
                     let mut emptied = base.clone();
                     let number = emptied.places[place].number;
                     emptied.places[place] = Set { owner, scope, ..Set::empty(number) };
-                    records.push(record_bytes::give(&emptied));
+                    records.push(emptied);
                     if usize::from(owner) < NEXUSES {
                         record.nexuses[usize::from(owner)].scope = scope;
-                        records.push(record_bytes::give(&record));
+                        records.push(record.clone());
                     }
                 }
             }
@@ -128,11 +147,11 @@ fn scopes_and_owners() -> Vec<Vec<u8>> {
         for nexus in 0..NEXUSES {
             let mut record = base.clone();
             settle_all(&mut record, nexus, 0, 0, 3);
-            records.push(record_bytes::give(&record));
+            records.push(record.clone());
             record.nexuses[9].scope = scope::ALL;
-            records.push(record_bytes::give(&record));
+            records.push(record.clone());
             record.places[0] = Set::empty(8);
-            records.push(record_bytes::give(&record));
+            records.push(record.clone());
         }
     }
     records
@@ -142,7 +161,9 @@ fn scopes_and_owners() -> Vec<Vec<u8>> {
 fn other_lengths() -> Vec<Vec<u8>> {
     let bytes = record_bytes::give(&mixed());
     let mut records = Vec::new();
-    for length in [0, 1, 4, 8, 225, 1109, 1304, 1315, 1316, 1318, 1319, 1330, 2634] {
+    for length in
+        [0, 1, 4, 8, 225, 1109, 1304, 1316, 1317, 1318, 1325, 1349, 1355, 1356, 1358, 1359, 1365, 2714]
+    {
         let mut changed = bytes.clone();
         changed.resize(length, 0);
         records.push(changed);

@@ -54,6 +54,7 @@ fn empty_place(sink: &mut Sink) {
     }
     stage.finish();
     record.nexuses[4].scope = scope::PUBLIC;
+    record.put_words_right();
     let mut stage = Stage::new("write on a record that isn't well formed", record, sink);
     stage.call(write(5, true));
     stage.call(write(16, true));

@@ -5,12 +5,12 @@ mod batches;
 use crate::codes::{decryption, encryption, opening_key, scope, ALGORITHM};
 use crate::comparison::numbers::Numbers;
 use crate::comparison::page_builder::{random_damage, random_list, set_length, status_header, Edit, SetPage};
-use crate::comparison::record_builder::random_record;
+use crate::comparison::record_builder::{random_record, random_wrong_words, with_right_words};
 use crate::comparison::session::{
-    event, event_of, load, load_bytes, power_on, read, read_status, security_in, security_out,
+    event, event_of, load, load_bytes, power_on, read, read_status, security_in, security_out, serves,
     vendor_release, write, Session,
 };
-use crate::record_bytes::{self, COUNTER_BYTES, NEXUS_BYTES, PLACE_BYTES};
+use crate::record_bytes::{self, COUNTER_BYTES, NEXUS_BYTES, PLACE_BYTES, RECORD_BYTES};
 use crate::sizes::{KEY_BYTES, NEXUSES, PLACES};
 use crate::stream::{kind, Command, Drive};
 
@@ -82,7 +82,7 @@ impl RandomSessions {
     /// Any command.
     fn command(&mut self) -> Command {
         let nexus = self.nexus();
-        let mut command = match self.numbers.below(112) {
+        let mut command = match self.numbers.below(115) {
             0..=41 => self.set_page(nexus),
             42..=53 => self.response_page(nexus),
             54..=69 => write(nexus, self.numbers.percent(70)),
@@ -98,6 +98,7 @@ impl RandomSessions {
             96 => load_bytes(self.damaged_record()),
             97 | 98 => load(&random_record(&mut self.numbers)),
             99 => self.unknown_kind(),
+            100..=102 => serves(self.numbers.pick(&[0, 0, 1, 1, 2, 2, 3, 3, 4, 4, 5, 6, 255, 256, 65535])),
             _ => self.read(nexus),
         };
         if self.numbers.percent(10) {
@@ -106,10 +107,10 @@ impl RandomSessions {
         command
     }
 
-    /// A kind of 13 to 252, with a length though no data follows.
+    /// A kind of 14 to 252, with a length though no data follows.
     fn unknown_kind(&mut self) -> Command {
-        let kind = if self.numbers.percent(50) { 13 } else { 13 + self.numbers.below(240) as u8 };
-        Command { length: self.numbers.pick(&[0, 0, 1, 52, 1317]), ..event(kind) }
+        let kind = if self.numbers.percent(50) { 14 } else { 14 + self.numbers.below(239) as u8 };
+        Command { length: self.numbers.pick(&[0, 0, 1, 52, RECORD_BYTES as u16]), ..event(kind) }
     }
 
     /// A read, mostly of a kind there is and with no key or one around those the reader's set has.
@@ -143,7 +144,13 @@ impl RandomSessions {
         }
         let has_argument = matches!(
             command.kind,
-            kind::IN | kind::OUT | kind::WRITE | kind::READ | kind::VENDOR_RELEASE | kind::BATCH
+            kind::IN
+                | kind::OUT
+                | kind::WRITE
+                | kind::READ
+                | kind::VENDOR_RELEASE
+                | kind::BATCH
+                | kind::SERVES
         );
         if !has_argument {
             command.argument = self.numbers.next() as u16;
@@ -307,14 +314,19 @@ impl RandomSessions {
         read_status(page)
     }
 
-    /// A well-formed record with a place copied to another, or with one to three bytes changed, mostly those of
-    /// codes, owners, lengths and marks.
+    /// A well-formed record with wrong words, with a place copied to another, or with one to three bytes changed, mostly
+    /// those of codes, owners, lengths and marks. Mostly the words are those that the scopes then say.
     fn damaged_record(&mut self) -> Vec<u8> {
         let numbers = &mut self.numbers;
         let mut record = random_record(numbers);
+        if numbers.percent(15) {
+            random_wrong_words(numbers, &mut record);
+            return record_bytes::give(&record);
+        }
         if numbers.percent(10) {
             let (from, to) = (1 + numbers.below(PLACES - 1), 1 + numbers.below(PLACES - 1));
             record.places[to] = record.places[from].clone();
+            record.put_words_right();
             return record_bytes::give(&record);
         }
         let mut bytes = record_bytes::give(&record);
@@ -336,6 +348,9 @@ impl RandomSessions {
                 1 => bytes[at].wrapping_add(1),
                 _ => numbers.pick(&[0, 0, 0, 1, 1, 2, 2, 3, 4, 5, 13, 16, 33, 255]),
             };
+        }
+        if numbers.percent(85) {
+            bytes = with_right_words(bytes);
         }
         if numbers.percent(3) {
             let length = numbers.below(2 * bytes.len());

@@ -201,8 +201,8 @@ fn calls_wanted() -> Vec<Item> {
 }
 
 /// Whether a replay can come to it. From power-on a record is always well formed (answer 1), the protocol is 20h (5),
-/// a batch is no event (18, 22), the lent buffer has no bytes, 4,294,967,296 draws don't fit a recording, and two places have the same number only
-/// after the wrap. The tables of values are the drive's comparison's task.
+/// a batch is no event (18, 22), nor is kind 13, the lent buffer has no bytes, 4,294,967,296 draws don't fit a recording, and
+/// two places have the same number only after the wrap. The tables of values are the drive's comparison's task.
 fn can_be_replayed(item: &Item) -> bool {
     let answers = |number: &u8| !matches!(number, 1 | 5 | 18 | 22 | 255);
     match item {
@@ -215,11 +215,13 @@ fn can_be_replayed(item: &Item) -> bool {
                 | Rule::FlagsForPlaceAlone
                 | Rule::BufferOfPageLength
                 | Rule::BufferLongerThanPage
+                | Rule::ServesNexuses
+                | Rule::ServesNobody
         ),
         Item::ClauseBroken(_) | Item::ClauseBrokenAlone(_) => false,
         Item::StatusRuleBroken(_) | Item::StatusRuleBrokenAlone(_) | Item::StatusPageLength(_) => false,
         Item::LentSize(_) | Item::SetPageByte(..) | Item::ReadCell(_) => false,
-        Item::Ceem(_) | Item::Batch(_) | Item::Place(_) | Item::FaultyByte(_) => false,
+        Item::Ceem(_) | Item::Batch(_) | Item::Place(_) | Item::FaultyByte(_) | Item::Word(_) => false,
         _ => true,
     }
 }

@@ -5,7 +5,7 @@ use super::outcome::{Outcome, Wanted};
 use super::replayer::{Difference, Way};
 use super::shrink::Short;
 use crate::answer_words::when;
-use crate::comparison::report::{fields, rows};
+use crate::comparison::report::{differing_fields_text, rows};
 use crate::names::{name_of, CALLS};
 use crate::record_bytes::RECORD_BYTES;
 use crate::recording::{broken_rules, fields_of, parts, replay, Event, Header, ANSWER_BYTES};
@@ -160,14 +160,8 @@ pub fn bytes_text(bytes: &[u8]) -> String {
 
 /// The fields in which two records differ.
 fn record_text(reference: &[u8], other: &[u8]) -> String {
-    let mut text = String::new();
     if other.len() != RECORD_BYTES {
-        return text;
+        return String::new();
     }
-    for ((name, reference), (_, other)) in fields(reference).into_iter().zip(fields(other)) {
-        if reference != other {
-            let _ = writeln!(text, "    {name}: reference {reference:02X?}, other {other:02X?}");
-        }
-    }
-    text
+    differing_fields_text(reference, other)
 }

@@ -12,6 +12,7 @@ mod refusals;
 mod sessions;
 mod wrong_events;
 
+pub use days::{day, every_kind as every_kind_of_event};
 pub use one_by_one::self_check;
 
 use crate::comparison::session::Sink;

@@ -26,7 +26,10 @@ fn records() -> Vec<Record> {
     about_to_wrap.counter = u32::MAX - 3;
     let mut damaged = mixed();
     damaged.nexuses[5].scope = 3;
-    vec![Record::power_on(), mixed(), full([4, 3, 2, 1]), about_to_wrap, without_all_nexus(), damaged]
+    let mut wrong_word = mixed();
+    wrong_word.selection_words.swap(1, 2);
+    let well_formed = [Record::power_on(), mixed(), full([4, 3, 2, 1]), about_to_wrap, without_all_nexus()];
+    [&well_formed[..], &[damaged, wrong_word]].concat()
 }
 
 /// The calls that are tried from each record: days of up to 64 calls, with power-on in the middle of some.

@@ -2,14 +2,14 @@
 
 use super::days::every_kind;
 use crate::comparison::batch_builder::{p7, BatchParts};
-use crate::comparison::directed::read_checks::CHANGES;
+use crate::comparison::directed::read_checks::not_well_formed_records;
 use crate::comparison::directed::records::is_bulk;
 use crate::comparison::page_builder::SetPage;
 use crate::comparison::record_builder::{full, mixed};
 use crate::comparison::session::{
     event, load, power_on, read, security_out, vendor_release, write, Session, Sink, Stage,
 };
-use crate::record_bytes;
+use crate::record_bytes::{self, WORDS_START};
 use crate::stream::{kind, Command};
 
 /// Records in one session.
@@ -42,9 +42,7 @@ fn batches() -> Vec<Vec<Command>> {
 
 /// Each clause of well-formedness broken.
 fn each_clause(sink: &mut Sink) {
-    for change in CHANGES {
-        let mut record = mixed();
-        change(&mut record);
+    for record in not_well_formed_records() {
         let mut stage = Stage::new("batches from a record that isn't well formed", record, sink);
         for commands in batches() {
             let batch = BatchParts::of(&commands);
@@ -54,8 +52,9 @@ fn each_clause(sink: &mut Sink) {
     }
 }
 
-/// Each bit of codes, owners and lengths turned, and one bit of other bytes, in a record of many kinds of set and in one
-/// with every place used: a batch without power-on, and one with it.
+/// Each bit of codes, owners, lengths and words turned, and one bit of other bytes, in a record of many kinds of set and in
+/// one with every place used: a batch without power-on, and one with it. The words are those that the scopes then say, unless
+/// the bit is one of theirs.
 fn one_bit_away(sink: &mut Sink) {
     let k = security_out(3, SetPage::k().bytes());
     let without = BatchParts::of(&[write(0, true), event(kind::LOGICAL_UNIT_RESET), k]);
@@ -69,7 +68,10 @@ fn one_bit_away(sink: &mut Sink) {
                 let mut turned = bytes.clone();
                 turned[at] ^= 1 << bit;
                 // a mark of 2 and above isn't taken
-                if let Some(record) = record_bytes::load(&turned) {
+                if let Some(mut record) = record_bytes::load(&turned) {
+                    if at < WORDS_START {
+                        record.put_words_right();
+                    }
                     let batch = if (at + bit) % 3 == 0 { &mended } else { &without };
                     commands.extend([load(&record), batch.command()]);
                 }

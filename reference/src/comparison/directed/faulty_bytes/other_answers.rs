@@ -27,6 +27,7 @@ fn before_8(sink: &mut Sink) {
     pending.nexuses[6].changed_by_vendor_event = true;
     let mut not_well_formed = record();
     not_well_formed.nexuses[6].scope = scope::LOCAL;
+    not_well_formed.put_words_right();
     for record in [pending, not_well_formed, record()] {
         let mut stage = Stage::new("faulty bytes: answers before 8", record, sink);
         for page in pages() {
