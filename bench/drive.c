@@ -4,6 +4,7 @@
 typedef unsigned char u8;
 typedef unsigned short u16;
 typedef unsigned int u32;
+typedef unsigned long u64;
 typedef unsigned long usize;
 #define bool _Bool
 #define true 1
@@ -41,6 +42,7 @@ struct device {
     u32 counter;
     struct set sets[PLACES];
     struct nexus nexuses[NEXUSES];
+    u64 words[PLACES]; // beside each place the nexuses that select it
 };
 struct page {
     u8 scope;
@@ -91,6 +93,8 @@ static usize owned_count(const struct device *d, usize n) {
     return owned;
 }
 
+static void words_of(const struct device *d, u64 *words);
+
 static bool well_formed(const struct device *d) {
     for (usize p = 0; p < PLACES; p++)
         if (!set_good(&d->sets[p], p)) return false;
@@ -104,6 +108,10 @@ static bool well_formed(const struct device *d) {
     }
     for (usize p = 1; p < PLACES; p++)
         if (d->sets[p].scope && d->nexuses[d->sets[p].owner].scope != LOCAL) return false;
+    u64 words[PLACES];
+    words_of(d, words);
+    for (usize p = 0; p < PLACES; p++)
+        if (d->words[p] != words[p]) return false;
     return all <= 1;
 }
 
@@ -121,6 +129,11 @@ static usize selected(const struct device *d, usize n) {
     return p < PLACES ? p : 0;
 }
 
+static void words_of(const struct device *d, u64 *words) {
+    for (usize p = 0; p < PLACES; p++) words[p] = 0;
+    for (usize n = 0; n < NEXUSES; n++) words[selected(d, n)] |= (u64)1 << n;
+}
+
 static enum answer hear(const struct device *d, u8 n) {
     if (!well_formed(d)) return NOT_WELL_FORMED;
     if (n >= NEXUSES) return NEXUS_ABOVE;
@@ -136,22 +149,24 @@ static enum answer refuse(struct device *d, u8 n, enum answer a) {
     return a;
 }
 
-// What each nexus used before a page or an event, to tell afterwards who gets a flag.
-struct uses { u8 place[NEXUSES]; u32 number[NEXUSES]; bool registered[NEXUSES]; };
+// What the places' words and numbers were before a page or an event, to tell afterwards who gets a flag.
+struct uses { u64 words[PLACES]; u32 number[PLACES]; bool registered[NEXUSES]; };
 
 static void note_uses(const struct device *d, struct uses *u) {
-    for (usize n = 0; n < NEXUSES; n++) {
-        u->place[n] = selected(d, n);
-        u->number[n] = d->sets[u->place[n]].number;
-        u->registered[n] = d->nexuses[n].marks.registered;
+    for (usize p = 0; p < PLACES; p++) {
+        u->words[p] = d->words[p];
+        u->number[p] = d->sets[p].number;
     }
+    for (usize n = 0; n < NEXUSES; n++) u->registered[n] = d->nexuses[n].marks.registered;
 }
 
 static void flag(struct device *d, const struct uses *before, int actor) { // actor -1: nobody
-    for (usize n = 0; n < NEXUSES; n++) {
-        if (!before->registered[n] || (int)n == actor) continue;
-        usize p = selected(d, n);
-        if (p == before->place[n] && d->sets[p].number == before->number[n]) continue;
+    u64 changed = 0;
+    words_of(d, d->words);
+    for (usize p = 0; p < PLACES; p++)
+        changed |= d->sets[p].number != before->number[p] ? before->words[p] | d->words[p] : before->words[p] ^ d->words[p];
+    for (usize n = 0; changed >> n; n++) {
+        if (!(changed >> n & 1) || !before->registered[n] || (int)n == actor) continue;
         if (actor < 0) d->nexuses[n].marks.vendor = true;
         else d->nexuses[n].marks.another = true;
     }
@@ -482,6 +497,7 @@ int main(void) {
     page_k(page);
     struct device d;
     memset(&d, 0, sizeof d);
+    d.words[0] = ((u64)1 << NEXUSES) - 1; // at power-on every nexus selects place 0
     security_out(&d, 3, 0x20, 0x10, page, sizeof page);
     places_taken(&d, input[0]);
     u32 turns = input[1] * 10u;

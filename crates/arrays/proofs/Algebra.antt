@@ -1,21 +1,21 @@
--- Words with a bit for each element, joined bit by bit: what `|`, `&`, `& !` and `^` make of two words of one list is a word of it.
+-- Words with a bit for each element, joined bit by bit: what `|`, `&` and `^` make of two words of one list is a word of it.
 -- Assumes nothing.
 use Prim.Native.Nat.{ℕ, zero, suc, _+_, _-_, _*_, _/_, _%_, _^_, _≤_, _<_, min, max, suc-le-suc}
 use mathlib.Core.Path.{_≡_, refl, sym, ap, _∙_}
 use mathlib.Core.List.{List, [], _∷_}
 use mathlib.Core.Bool.{Bool, true, false, not, _&&_, _||_}
-use native.Mathlib.Nat.{le-of-suc-le-suc, not-suc-le-zero, add-zero, add-suc, suc-add, zero-add, lt-of-lt-of-le}
+use native.Mathlib.Nat.{le-of-suc-le-suc, not-suc-le-zero, add-zero, add-suc, suc-add, zero-add}
 use native.Mathlib.Numerals.{one-add}
 use native.Mathlib.Omega.{arith}
 use borrow.Author.Tests.{eq-eqb, ne-eqb}
 use lib.Bits.{bitAnd, bitOr, bitXor, differ, and-step, or-step, xor-step}
 use lib.Dec.{eqb}
 use lib.ListN.{length, getD}
-use lib.Pow.{pow-mono, shr-shr, shr-le}
+use lib.Pow.{shr-shr, shr-le}
 use Rattle.arrays.specs.Base.{bit}
 use Rattle.arrays.specs.Arrays.{wordOf}
 use Rattle.arrays.specs.Words.{bitOf}
-use Rattle.arrays.proofs.Words.{wordFrom, double, word-below}
+use Rattle.arrays.proofs.Words.{wordFrom, double}
 
 -- a word's lowest digit, and its other digits
 pub low : (q : Bool) (r : ℕ) → (2 * r + bit q) % 2 ≡ bit q
@@ -73,33 +73,6 @@ module _ {A : Type 0} (p q : ℕ → A → Bool) (xs : List A) where
   -- `^`: the bits of one alone
   pub word-xor : bitXor (wordOf p xs) (wordOf q xs) ≡ wordOf (λ k x. apart (p k x) (q k x)) xs
   word-xor = joined-from bitXor differ xor-step refl apart xor-digit p q xs 0
-
--- ---- `& !`: the bits of the first without those of the second, in a width m of digits
-
--- the complement's lowest digit
-not-low : (q : Bool) (r t : ℕ) → r < t → (2 * t - 1 - (2 * r + bit q)) % 2 ≡ bit (not q)
-not-low true r t h = omega arith
-not-low false r t h = omega arith
-
--- and its other digits
-not-high : (q : Bool) (r t : ℕ) → r < t → (2 * t - 1 - (2 * r + bit q)) / 2 ≡ t - 1 - r
-not-high true r t h = omega arith
-not-high false r t h = omega arith
-
-module _ {A : Type 0} (p q : ℕ → A → Bool) where
-  without-from : (xs : List A) (b m : ℕ) → length xs ≤ m → bitAnd (wordFrom p b xs) (2 ^ m - 1 - wordFrom q b xs) ≡ wordFrom (λ k x. p k x && not (q k x)) b xs
-  without-from [] b m h = refl
-  without-from (x ∷ xs) b zero h = absurd (not-suc-le-zero h)
-  without-from (x ∷ xs) b (suc m) h =
-      let v = wordFrom p (suc b) xs in
-      let w = wordFrom q (suc b) xs in
-      let small : wordFrom q (suc b) xs < 2 ^ m = lt-of-lt-of-le (word-below q xs (suc b)) (pow-mono (le-of-suc-le-suc h)) in
-      let e : bitAnd v (2 ^ m - 1 - w) ≡ wordFrom (λ k y. p k y && not (q k y)) (suc b) xs = without-from xs (suc b) m (le-of-suc-le-suc h) in
-      rw (double m, and-step (2 * v + bit (p b x)) (2 * 2 ^ m - 1 - (2 * w + bit (q b x))), low (p b x) v, high (p b x) v, not-low (q b x) w (2 ^ m) small, not-high (q b x) w (2 ^ m) small, and-digit (p b x) (not (q b x))) (omega (arith, e))
-
-  -- `& !`
-  pub word-without : (xs : List A) (m : ℕ) → length xs ≤ m → bitAnd (wordOf p xs) (2 ^ m - 1 - wordOf q xs) ≡ wordOf (λ k x. p k x && not (q k x)) xs
-  word-without xs m h = without-from xs 0 m h
 
 -- ---- a word by its bits
 

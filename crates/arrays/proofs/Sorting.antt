@@ -1,9 +1,9 @@
 -- Words that sort elements: beside each place a word of the elements that pick it, made by one loop or kept as picks change.
 -- Assumes nothing.
-use Prim.Native.Nat.{ℕ, suc, _+_, _-_, _*_, _%_, _≤_, _<_, _^_}
+use Prim.Native.Nat.{ℕ, _+_, _-_, _*_, _%_, _≤_, _<_, _^_}
 use mathlib.Core.Path.{_≡_, refl, sym, ap, _∙_}
-use mathlib.Core.List.{List, [], _∷_}
-use mathlib.Core.Bool.{Bool, true, false, not, _&&_, _||_, or-false, and-false}
+use mathlib.Core.List.{List}
+use mathlib.Core.Bool.{Bool, true, false, _&&_, _||_, or-false, and-false}
 use native.Mathlib.Nat.{one-mul, mod-eq-of-lt}
 use native.Mathlib.Omega.{arith}
 use borrow.Author.Tests.{eqb-true, eqb-false, eq-eqb, ne-eqb, lt-ltb, le-ltb, ltb-true, ltb-false}
@@ -12,7 +12,7 @@ use lib.Dec.{eqb, ltb}
 use lib.ListN.{length, getD, set, replicate, length-set, length-replicate, getD-replicate}
 use lib.Seq.{ext-getD, getD-set-same, getD-set-other}
 use lib.Pow.{pow-lt}
-use Rattle.arrays.specs.Arrays.{mapFrom, wordOf}
+use Rattle.arrays.specs.Arrays.{wordOf}
 use Rattle.arrays.specs.Words.{wordsOf, wordsBy}
 use Rattle.arrays.proofs.Base.{cases}
 use Rattle.arrays.proofs.Laws.{length-mapFrom, getD-mapFrom}
@@ -26,16 +26,6 @@ module _ {A B : Type 0} (q : ℕ → ℕ → A → Bool) (xs : List A) (ys : Lis
   -- the word of a place
   pub words-at : (e : B) (place : ℕ) → place < length ys → getD (wordsOf q xs ys) place 0 ≡ wordOf (q place) xs
   words-at e place h = getD-mapFrom (λ k y. wordOf (q k) xs) ys place e 0 h
-
--- what the places hold does not matter, only how many there are
-pub words-wide : {A B : Type 0} (q : ℕ → ℕ → A → Bool) (xs : List A) (ys zs : List B) → length ys ≡ length zs → wordsOf q xs ys ≡ wordsOf q xs zs
-words-wide {B} q xs ys zs = from ys zs 0
-  where
-    from : (ys zs : List B) (b : ℕ) → length ys ≡ length zs → mapFrom (λ place (y : B). wordOf (q place) xs) b ys ≡ mapFrom (λ place (y : B). wordOf (q place) xs) b zs
-    from [] [] b l = refl
-    from [] (z ∷ zs) b l = absurd (omega arith)
-    from (y ∷ ys) [] b l = absurd (omega arith)
-    from (y ∷ ys) (z ∷ zs) b l = ap (λ (r : List ℕ). wordOf (q b) xs ∷ r) (from ys zs (suc b) (omega arith))
 
 module _ {A B : Type 0} (d : A) (e : B) (q r : ℕ → ℕ → A → Bool) (xs zs : List A) (ys : List B) (l : length xs ≡ length zs) where
   -- tests that tell the same at each place and element make the same words

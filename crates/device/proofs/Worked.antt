@@ -191,9 +191,9 @@ uses = refl
 -- ---- document 02, request 7
 
 -- "at power-on 16 ones for place 0, zeros elsewhere"
-pub power-on-words : words (powerOn 16 5) ≡ 65535 ∷ 0 ∷ 0 ∷ 0 ∷ 0 ∷ []
+pub new-words : words (powerOn 16 5) ≡ 65535 ∷ 0 ∷ 0 ∷ 0 ∷ 0 ∷ []
 unfolding words selected ownedPlace powerOn
-power-on-words = refl
+new-words = refl
 
 -- "one word whose bit n says that nexus n selects this place": places 1 and 2 serve nexuses 3 and 4, place 0 all others
 pub busy-words : words busy ≡ 65511 ∷ 8 ∷ 16 ∷ 0 ∷ 0 ∷ []

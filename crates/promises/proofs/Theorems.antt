@@ -102,7 +102,7 @@ pub use Rattle.session.proofs.Records.{formed-answers, all-append, answers-of-a
 -- The question is answered by the word, a place above the last by 13, a record that is not well formed by 1.
 pub use Rattle.drive.proofs.Serving.{served-told, served-above, served-unformed}
 -- Words of records, and each bit of each word turned over.
-pub use Rattle.device.proofs.Worked.{busy-words, turned-words, each-bit-counts}
+pub use Rattle.device.proofs.Worked.{new-words, busy-words, turned-words, each-bit-counts}
 -- What is found of IN, a write and a read by the sender and the set that it uses alone is its answer, and all that it changes; one that is
 -- found to change nothing leaves the record as it is.
 pub use Rattle.calls.proofs.Quietly.{quiet-still, in-found, write-found, read-found}

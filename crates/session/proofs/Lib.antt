@@ -1,7 +1,6 @@
 pub mod OneByOne
 pub mod Records
 pub mod Folds
-pub mod Stores
 pub mod Cut
 pub mod Replayed
 pub mod Worked

@@ -20,7 +20,7 @@ use Rattle.arrays.proofs.Algebra.{word-or, word-and, word-xor, word-same, word-
 use Rattle.arrays.proofs.Joining.{some-at, some-found}
 use Rattle.arrays.proofs.Sorting.{shifted-one}
 use Rattle.parameters.specs.Codes.{publicScope, localScope, allScope}
-use Rattle.device.specs.Record.{State, setAt, nexusAt, noSet, newNexus, empty, used}
+use Rattle.device.specs.Record.{State, setAt, nexusAt, noSet, newNexus, used}
 use Rattle.device.specs.Selecting.{owns, selected}
 use Rattle.device.specs.WellFormed.{emptyIsZero, usedFits, setGood, hasAll, wellFormed}
 use Rattle.device.specs.Words.{words, Worded, formed}
