@@ -7,5 +7,6 @@ pub mod Words
 pub mod Algebra
 pub mod Sorting
 pub mod Joining
+pub mod Placing
 pub mod Total
 pub mod Worked

@@ -1,4 +1,4 @@
--- Words that sort elements: beside each place a word of the elements that pick it, made by one loop or kept as picks change.
+-- Words that sort elements: beside each place a word of those that pass its test; and a loop that forms one word.
 -- Assumes nothing.
 use Prim.Native.Nat.{ℕ, _+_, _-_, _*_, _%_, _≤_, _<_, _^_}
 use mathlib.Core.Path.{_≡_, refl, sym, ap, _∙_}
@@ -6,14 +6,14 @@ use mathlib.Core.List.{List}
 use mathlib.Core.Bool.{Bool, true, false, _&&_, _||_, or-false, and-false}
 use native.Mathlib.Nat.{one-mul, mod-eq-of-lt}
 use native.Mathlib.Omega.{arith}
-use borrow.Author.Tests.{eqb-true, eqb-false, eq-eqb, ne-eqb, lt-ltb, le-ltb, ltb-true, ltb-false}
+use borrow.Author.Tests.{eqb-true, eqb-false, eq-eqb, lt-ltb, le-ltb, ltb-true, ltb-false}
 use lib.Bits.{bitOr}
 use lib.Dec.{eqb, ltb}
-use lib.ListN.{length, getD, set, replicate, length-set, length-replicate, getD-replicate}
+use lib.ListN.{length, getD, set, length-set}
 use lib.Seq.{ext-getD, getD-set-same, getD-set-other}
 use lib.Pow.{pow-lt}
 use Rattle.arrays.specs.Arrays.{wordOf}
-use Rattle.arrays.specs.Words.{wordsOf, wordsBy}
+use Rattle.arrays.specs.Words.{wordsOf}
 use Rattle.arrays.proofs.Base.{cases}
 use Rattle.arrays.proofs.Laws.{length-mapFrom, getD-mapFrom}
 use Rattle.arrays.proofs.Algebra.{word-or, word-same, word-none, word-one}
@@ -53,78 +53,16 @@ module _ {A B : Type 0} (d : A) (e : B) (q r : ℕ → ℕ → A → Bool) (xs z
           getD-set-other (wordsOf q xs ys) p place v 0 (eqb-false _ _ y)
           ∙ words-at q xs ys e place t ∙ word-same (q place) (r place) d d xs zs l (λ n u. f place n y t u))
 
--- ---- a loop that sorts the elements into words
-
--- the elements below i that pick the place
-abbrev pub sorted : {A : Type 0} → (ℕ → A → ℕ) → ℕ → ℕ → ℕ → A → Bool
-sorted sel i place n x = ltb n i && eqb (sel n x) place
-
--- the invariant: of the n elements xs, those below i are sorted into words
-pub record Sorted {A B : Type 0} (sel : ℕ → A → ℕ) (n : ℕ) (xs : List A) (ys : List B) (i : ℕ) (words : List ℕ) : Type 0 where
-  pub within : i ≤ n
-  pub sized : length xs ≡ n
-  pub made : words ≡ wordsOf (sorted sel i) xs ys
-
 -- a step of "below": the index itself comes in
-below-here : (i : ℕ) → ltb i (i + 1) ≡ true
+pub below-here : (i : ℕ) → ltb i (i + 1) ≡ true
 below-here i = lt-ltb i (i + 1) (omega arith)
 
-below-other : (k i : ℕ) → eqb k i ≡ false → ltb k (i + 1) ≡ ltb k i
+pub below-other : (k i : ℕ) → eqb k i ≡ false → ltb k (i + 1) ≡ ltb k i
 below-other k i e =
     let ne : k ≡ i → ⊥ = eqb-false k i e in
     cases (ltb k i)
     (λ t. lt-ltb k (i + 1) (omega (arith, ltb-true k i t)) ∙ sym t)
     (λ t. le-ltb k (i + 1) (omega (arith, ltb-false k i t, ne)) ∙ sym t)
-
-module _ {A B : Type 0} {sel : ℕ → A → ℕ} {n : ℕ} {xs : List A} {ys : List B} where
-  -- nothing is sorted yet
-  pub sort-starts : (d : A) (e : B) {m : ℕ} → length xs ≡ n → length ys ≡ m → Sorted sel n xs ys 0 (replicate m 0)
-  sort-starts d e {m} h l =
-      record { within = omega arith; sized = h; made = zeros }
-    where
-      zeros : replicate m 0 ≡ wordsOf (sorted sel 0) xs ys
-      zeros =
-          ext-getD 0 (replicate m 0) (wordsOf (sorted sel 0) xs ys) (length-replicate m 0 ∙ sym l ∙ sym (words-length (sorted sel 0) xs ys))
-          (λ place t.
-          let u : place < m = omega (arith, length-replicate {A = ℕ} m 0, t) in
-          getD-replicate m place 0 0 u ∙ sym (words-at (sorted sel 0) xs ys e place (omega arith) ∙ word-same (sorted sel 0 place) (λ k x. false) d d xs xs refl (λ k v. simp (le-ltb k 0 (omega arith))) ∙ word-none xs))
-
-  -- one more: its bit comes into the word that it picks
-  pub sort-more : {i : ℕ} {words : List ℕ} → Sorted sel n xs ys i words → i < n → (d : A) (e : B) {place v : ℕ} → place ≡ sel i (getD xs i d) → place < length ys → v ≡ 2 ^ i
-      → Sorted sel n xs ys (i + 1) (set words place (bitOr (getD words place 0) v))
-  sort-more {i} {words} r h d e {place} {v} picks inside one =
-      record { within = omega arith; sized = r .sized; made = stored }
-    where
-      here : i < length xs
-      here = omega (arith, r .sized)
-
-      at : (k : ℕ) → k < length xs → (sorted sel i place k (getD xs k d) || eqb k i) ≡ sorted sel (i + 1) place k (getD xs k d)
-      at k l =
-          cases (eqb k i)
-          (λ y. let same : k ≡ i = eqb-true k i y in rw (same, eq-eqb i i refl, below-here i, ← picks, eq-eqb place place refl, le-ltb i i (omega arith)))
-          (λ y. rw (y, below-other k i y) (or-false (ltb k i && eqb (sel k (getD xs k d)) place)))
-
-      other : (p k : ℕ) → eqb p place ≡ false → p < length ys → k < length xs → sorted sel i p k (getD xs k d) ≡ sorted sel (i + 1) p k (getD xs k d)
-      other p k y t l =
-          cases (eqb k i)
-          (λ z.
-          let same : k ≡ i = eqb-true k i z in
-          let off : eqb (sel i (getD xs i d)) p ≡ false = rw (← picks) (ne-eqb place p (λ w. eqb-false p place y (sym w))) in
-          rw (same, off, and-false (ltb i i), and-false (ltb i (i + 1))))
-          (λ z. rw (below-other k i z))
-
-      joined : bitOr (getD words place 0) v ≡ wordOf (sorted sel (i + 1) place) xs
-      joined =
-          rw (r .made, words-at (sorted sel i) xs ys e place inside, one, ← word-one xs i here, word-or (sorted sel i place) (λ k x. eqb k i) xs)
-          (word-same (λ k x. sorted sel i place k x || eqb k i) (sorted sel (i + 1) place) d d xs xs refl at)
-
-      stored : set words place (bitOr (getD words place 0) v) ≡ wordsOf (sorted sel (i + 1)) xs ys
-      stored = ap (λ (w : List ℕ). set w place (bitOr (getD words place 0) v)) (r .made) ∙ words-set d e (sorted sel i) (sorted sel (i + 1)) xs xs ys refl place _ joined other
-
-  -- all are sorted
-  pub sort-ends : {i : ℕ} {words : List ℕ} → Sorted sel n xs ys i words → n ≤ i → (d : A) (e : B) → words ≡ wordsBy sel xs ys
-  sort-ends {i} r h d e =
-      r .made ∙ words-same d e (sorted sel i) (λ place k x. eqb (sel k x) place) xs xs ys refl (λ place k t u. simp (lt-ltb k i (omega (arith, r .sized))))
 
 -- ---- a loop that goes up and forms one word
 
@@ -133,6 +71,10 @@ pub record Picked {A : Type 0} (p : ℕ → A → Bool) (n : ℕ) (xs : List A) 
   pub within : i ≤ n
   pub sized : length xs ≡ n
   pub made : w ≡ wordOf (λ k x. ltb k i && p k x) xs
+
+-- in a word that is the same
+pub pick-same : {A : Type 0} {p : ℕ → A → Bool} {n : ℕ} {xs : List A} {i v w : ℕ} → v ≡ w → Picked p n xs i w → Picked p n xs i v
+pick-same e r = record { within = r .within; sized = r .sized; made = e ∙ r .made }
 
 module _ {A : Type 0} {p : ℕ → A → Bool} {n : ℕ} {xs : List A} (d : A) where
   -- no bit is there yet

@@ -52,6 +52,7 @@ pub use Rattle.device_code.proofs.Settled.{or-else-settles as device-code-or-el
 pub use Rattle.device_code.proofs.Settled.{used-fits-settles as device-code-used-fits-settles}
 pub use Rattle.device_code.proofs.Settled.{empty-is-zero-settles as device-code-empty-is-zero-settles}
 -- crate words_code
+pub use Rattle.words_code.proofs.Settled.{local-bit-settles as words-code-local-bit-settles}
 pub use Rattle.words_code.proofs.Settled.{hold-settles as words-code-hold-settles}
 pub use Rattle.words_code.proofs.Settled.{nexus-fits-settles as words-code-nexus-fits-settles}
 pub use Rattle.words_code.proofs.Settled.{changed-at-settles as words-code-changed-at-settles}

@@ -4,9 +4,9 @@ use Prim.Native.Nat.{ℕ, zero, suc, _-_, _%_, _^_, _≤_, _<_}
 use mathlib.Core.Path.{_≡_, refl, sym, ap, ap₂, _∙_}
 use mathlib.Core.Bool.{Bool, true, false, not, _&&_, _||_}
 use mathlib.Core.List.{List, [], _∷_}
-use native.Mathlib.Nat.{zero-mul, mod-eq-of-lt}
+use native.Mathlib.Nat.{zero-mul}
 use native.Mathlib.Omega.{arith}
-use borrow.Author.Tests.{eqb-true, eqb-false, eq-eqb, ne-eqb, ltb-true, ltb-false}
+use borrow.Author.Tests.{eqb-true, eqb-false, eq-eqb, ne-eqb, lt-ltb, ltb-true, ltb-false}
 use lib.Bits.{bitAnd, bitOr, bitXor}
 use lib.Dec.{eqb, ltb}
 use lib.ListN.{length, getD}
@@ -16,7 +16,7 @@ use Rattle.arrays.specs.Words.{someBelow}
 use Rattle.arrays.proofs.Base.{cases, clash, both, and-both, and-right, if-true, if-false, or-of, or-other, same-truth, each-holds}
 use Rattle.arrays.proofs.Laws.{each-at, each-of}
 use Rattle.arrays.proofs.Counting.{count-some, count-one}
-use Rattle.arrays.proofs.Algebra.{word-or, word-and, word-xor, word-same, word-bits, word-none, word-every, word-one}
+use Rattle.arrays.proofs.Algebra.{word-or, word-and, word-xor, word-same, word-bits, word-none, word-every}
 use Rattle.arrays.proofs.Joining.{some-at, some-found}
 use Rattle.arrays.proofs.Sorting.{shifted-one}
 use Rattle.parameters.specs.Codes.{publicScope, localScope, allScope}
@@ -27,9 +27,11 @@ use Rattle.device.specs.Words.{words, Worded, formed}
 use Rattle.device.specs.declared.Nexus.{Nexus}
 use Rattle.device.proofs.WellFormed.{place-local, GoodSet, good-set, set-good, nexus-good, owner-local, well, well-formed, sets-tested, nexus-at, owner-at}
 use Rattle.device.proofs.Selecting.{own, selected-local, selected-only, selected-shared}
-use Rattle.words.specs.Fitting.{ownerBit, heldBy, nexusFits, isLocal, scopesFit, selectionsFit}
+use Rattle.words.specs.Placing.{isLocal}
+use Rattle.words.specs.Fitting.{ownerBit, heldBy, nexusFits, scopesFit, selectionsFit}
 use Rattle.words.specs.declared.Held.{Held}
 use Rattle.words.proofs.Words.{length-words, word-at, formed-is, is-formed}
+use Rattle.words.proofs.Placing.{local-word}
 
 -- ---- the owners of places with good sets
 
@@ -41,9 +43,6 @@ module _ (s : State) (ws : List ℕ) (few : length (s .nexuses) ≤ 64) (good : 
   -- the word of those that own one of so many places
   abbrev owners : ℕ → ℕ
   owners places = wordOf (λ n (x : Nexus). someBelow places (owned n)) (s .nexuses)
-
-  not-local : (place n : ℕ) → eqb (setAt s place .scope) localScope ≡ false → owned n place ≡ false
-  not-local place n f = simp f
 
   -- a place whose set isn't LOCAL has no bit
   no-bit : (place : ℕ) → place < length (s .sets) → eqb (setAt s place .scope) localScope ≡ false → ownerBit place (setAt s place) ≡ 0
@@ -59,32 +58,23 @@ module _ (s : State) (ws : List ℕ) (few : length (s .nexuses) ≤ 64) (good : 
       if-false (eqb place 0) 0 _ later ∙ rw (free, zero-mul (2 ^ (setAt s place .owner % 64))) refl)
 
   -- a place with a LOCAL set has its owner's
-  one-bit : (place : ℕ) → place < length (s .sets) → setAt s place .scope ≡ localScope → (ownerBit place (setAt s place) ≡ 2 ^ (setAt s place .owner)) × (setAt s place .owner < length (s .nexuses))
+  one-bit : (place : ℕ) → place < length (s .sets) → setAt s place .scope ≡ localScope → ownerBit place (setAt s place) ≡ 2 ^ (setAt s place .owner % 64)
   one-bit place h e =
       let set = setAt s place in
-      let g = good place h in
       let taken : used set ≡ true = ap (λ (k : ℕ). not (eqb k 0)) e in
       let later : eqb place 0 ≡ false =
       cases (eqb place 0)
-      (λ t. clash {b = eqb localScope allScope} (eq-eqb localScope allScope (sym e ∙ g .fits taken ∙ if-true (eqb place 0) allScope localScope t)) refl)
+      (λ t. clash {b = eqb localScope allScope} (eq-eqb localScope allScope (sym e ∙ good place h .fits taken ∙ if-true (eqb place 0) allScope localScope t)) refl)
       (λ f. f) in
-      let small : set .owner % 64 ≡ set .owner = mod-eq-of-lt (omega (arith, g .owner, few)) in
-      (if-false (eqb place 0) 0 _ later ∙ rw (e, small) (shifted-one 64 (set .owner) (omega (arith, g .owner, few))), g .owner)
+      if-false (eqb place 0) 0 _ later ∙ rw e (shifted-one 64 (set .owner % 64) (omega arith))
 
   -- so the bit of a place's owner is the word of those that own it
   bit-word : (place : ℕ) → place < length (s .sets) → ownerBit place (setAt s place) ≡ wordOf (λ n (x : Nexus). owned n place) (s .nexuses)
   bit-word place h =
       cases (eqb (setAt s place .scope) localScope)
-      (λ t.
-      let b = one-bit place h (eqb-true _ _ t) in
-      b .0 ∙ sym (word-one (s .nexuses) (setAt s place .owner) (b .1))
-      ∙ word-same (λ n (x : Nexus). eqb n (setAt s place .owner)) (λ n (x : Nexus). owned n place) newNexus newNexus (s .nexuses) (s .nexuses) refl (λ n k. sym (simp t (turned (setAt s place .owner) n))))
-      (λ f.
-      no-bit place h f ∙ sym (word-none (s .nexuses))
-      ∙ word-same (λ n (x : Nexus). false) (λ n (x : Nexus). owned n place) newNexus newNexus (s .nexuses) (s .nexuses) refl (λ n k. sym (not-local place n f)))
-    where
-      turned : (a b : ℕ) → eqb a b ≡ eqb b a
-      turned a b = same-truth (eqb a b) (eqb b a) (λ t. eq-eqb b a (sym (eqb-true a b t))) (λ t. eq-eqb a b (sym (eqb-true b a t)))
+      (λ t. one-bit place h (eqb-true _ _ t) ∙ sym (if-true _ _ 0 (both _ _ t (lt-ltb _ _ (good place h .owner)))))
+      (λ f. no-bit place h f ∙ sym (if-false (eqb (setAt s place .scope) localScope && ltb (setAt s place .owner) (length (s .nexuses))) _ 0 (simp f)))
+      ∙ local-word (s .nexuses) few (setAt s place)
 
   -- what so many places hold
   held-word : (places : ℕ) → places ≤ length (s .sets) → heldBy (s .sets) ws places .word ≡ owners places

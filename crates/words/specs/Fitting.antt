@@ -11,6 +11,7 @@ use Rattle.parameters.specs.Codes.{publicScope, localScope, allScope}
 use Rattle.device.specs.Record.{noSet, used}
 use Rattle.device.specs.declared.Set.{Set}
 use Rattle.device.specs.declared.Nexus.{Nexus}
+use Rattle.words.specs.Placing.{isLocal}
 use Rattle.words.specs.declared.Held.{Held}
 
 -- the bit of a place's owner: the scope of a used place other than 0 is 1
@@ -34,9 +35,6 @@ heldBy sets words places = runs (λ place. heldWith place (getD sets place noSet
 abbrev pub nexusFits : Set → ℕ → Nexus → Bool
 nexusFits first n nexus =
     eqb (nexus .scope) publicScope || (eqb (nexus .scope) localScope || (eqb (nexus .scope) allScope && used first && eqb (first .owner) n))
-
-abbrev pub isLocal : ℕ → Nexus → Bool
-isLocal n nexus = eqb (nexus .scope) localScope
 
 -- the nexuses fit, and those that are LOCAL are the owners
 unfoldable pub scopesFit : Set → (owners : ℕ) → List Nexus → Bool

@@ -1,3 +1,4 @@
 pub mod Changes
+pub mod Placing
 pub mod Fitting
 pub mod Served

@@ -11,24 +11,44 @@ use sizes_16::PLACES;
 use words::Held;
 ghost use mathlib.Core.Path.{_≡_};
 ghost use Prim.Native.Nat.{_-_, _^_};
+ghost use Rattle.arrays.specs.Arrays.{wordOf};
 ghost use Rattle.device.specs.Record.{powerOn};
 ghost use Rattle.device.specs.Words.{words, withWords, formed};
+ghost use Rattle.words.specs.Placing.{isLocal};
 ghost use Rattle.words.specs.Fitting.{heldBy, scopesFit, selectionsFit};
 ghost use Rattle.sizes_16.specs.Sizes.{nexusCount, placeCount};
 ghost use Rattle.device_16.specs.Model.{state, worded, recordOf};
 
-// The words as the scopes say: each nexus's bit goes into the word of the place that it selects.
+// The LOCAL nexuses.
+fn locals_of(nexuses: [Nexus; NEXUSES]) -> u64
+    ensures { λ r. ⌜ r ≡ wordOf isLocal nexuses ⌝ }
+{
+    let mut locals: u64 = 0;
+    for n in 0..NEXUSES {
+        let nexus = nexuses[n];
+        if nexus.scope == LOCAL {
+            locals = locals | (1u64 << n);
+        }
+    }
+    locals
+}
+
+// The words as the scopes say: each place has its set's owner, if that is LOCAL and has no place before; place 0 has all others.
 pub fn words_of(d: Device) -> [u64; PLACES]
     ensures { λ r. ⌜ r ≡ words (state d) ⌝ }
 {
     let sets = d.sets;
     let nexuses = d.nexuses;
+    let locals = locals_of(nexuses);
     let mut words = [0u64; PLACES];
-    for n in 0..NEXUSES {
-        let nexus = nexuses[n];
-        let place = device_16::place_of(nexus, n, sets);
-        words[place] = words[place] | (1u64 << n);
+    let mut rest = locals;
+    for place in 0..PLACES {
+        let set = sets[place];
+        let own = rest & words_code::local_bit(set, NEXUSES);
+        words[place] = own;
+        rest = rest ^ own;
     }
+    words[0] = words[0] | (EVERY_NEXUS ^ locals ^ rest);
     words
 }
 

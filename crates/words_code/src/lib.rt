@@ -8,9 +8,20 @@ use words::Held;
 ghost use mathlib.Core.Path.{_≡_};
 ghost use lib.Bits.{bitOr, bitXor};
 ghost use Rattle.arrays.specs.Base.{if_then_else_};
+ghost use Rattle.words.specs.Placing.{localBit};
 ghost use Rattle.words.specs.Fitting.{ownerBit, heldWith, nexusFits};
 
-// The bit of a place's owner. The scope of a used place other than 0 is 1, and place 0 has no owner of this kind.
+// The bit of the nexus that owns a LOCAL set, where there are that many.
+pub fn local_bit(set: Set, nexuses: usize) -> u64
+    ensures { λ r. ⌜ r ≡ localBit nexuses set ⌝ }
+{
+    if (set.scope == LOCAL) & ((set.owner as usize) < nexuses) {
+        return 1u64 << ((set.owner % 64) as usize);
+    }
+    0
+}
+
+// The bit of a place's owner, in check 1, which has seen that the scope of a used place other than 0 is 1; place 0 has none.
 fn owner_bit(set: Set, place: usize) -> u64
     ensures { λ r. ⌜ r ≡ ownerBit place set ⌝ }
 {

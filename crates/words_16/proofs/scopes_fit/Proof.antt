@@ -1,18 +1,17 @@
 use borrow.Author.Needs.{needs}
-use Prim.Native.Nat.{ℕ, _-_}
-use mathlib.Core.List.{List}
+use Prim.Native.Nat.{_-_}
 use mathlib.Core.Bool.{true}
-use mathlib.Core.Path.{_≡_, refl, sym, ap, subst}
+use mathlib.Core.Path.{refl, sym, ap}
 use mathlib.Core.Logic.{⊎-elim}
 use lib.Dec.{eqb}
 use borrow.Author.Tests.{eq-eqb, ne-eqb, not-true, not-false}
 use Rattle.arrays.proofs.Base.{and-first, and-last}
 use Rattle.arrays.proofs.Loops.{Checked, check-starts, check-passes, check-fails, check-ends}
-use Rattle.arrays.proofs.Sorting.{Picked, pick-starts, pick-more, pick-passes, pick-ends, shifted-one}
+use Rattle.arrays.proofs.Sorting.{Picked, pick-starts, pick-more, pick-passes, pick-ends, pick-same, shifted-one}
 use Rattle.sizes_16.specs.Sizes.{nexusCount}
 use Rattle.device.specs.Record.{newNexus}
-use Rattle.device.specs.declared.Nexus.{Nexus}
-use Rattle.words.specs.Fitting.{nexusFits, isLocal, scopesFit}
+use Rattle.words.specs.Placing.{isLocal}
+use Rattle.words.specs.Fitting.{nexusFits, scopesFit}
 use Rattle.words_16.proofs.scopes_fit.Statement.{statement}
 use Rattle.words_16.proofs.scopes_fit.Tie as tie
 
@@ -22,10 +21,6 @@ Inv-loop owners first nexuses locals₀ n₀ locals n = Checked (nexusFits first
 abbrev μ-loop : tie.MeasureT-loop
 μ-loop owners first nexuses locals₀ n₀ locals n = nexusCount - n
 
--- the word that the branch leaves
-stored : {xs : List Nexus} {n v w : ℕ} → v ≡ w → Picked isLocal nexusCount xs n w → Picked isLocal nexusCount xs n v
-stored {xs} {n} e = subst (Picked isLocal nexusCount xs n) (sym e)
-
 -- one nexus more: LOCAL, ALL, or PUBLIC
 again : tie.Need-loop-again Inv-loop μ-loop
 again c =
@@ -33,16 +28,16 @@ again c =
     ⊎-elim
     (λ w. (
       check-passes (l .inv .0) (search needs) newNexus (w .1 .ensures) (not-false _ (w .2 .left)),
-      stored (w .5) (pick-more newNexus (l .inv .1) (search needs) (eq-eqb _ _ (w .4 .taken)) (shifted-one 64 (l .n) (search needs))),
+      pick-same (w .5) (pick-more newNexus (l .inv .1) (search needs) (eq-eqb _ _ (w .4 .taken)) (shifted-one 64 (l .n) (search needs))),
     ))
     (⊎-elim
     (λ w. (
       check-passes (l .inv .0) (search needs) newNexus (w .1 .ensures) (not-false _ (w .2 .left)),
-      stored (w .5) (pick-passes newNexus (l .inv .1) (search needs) (ne-eqb _ _ (w .4 .left))),
+      pick-same (w .5) (pick-passes newNexus (l .inv .1) (search needs) (ne-eqb _ _ (w .4 .left))),
     ))
     (λ w. (
       check-passes (l .inv .0) (search needs) newNexus {b = true} (sym (simp (eq-eqb _ _ (w .0 .left)))) refl,
-      stored (w .1) (pick-passes newNexus (l .inv .1) (search needs) (simp (w .0 .left))),
+      pick-same (w .1) (pick-passes newNexus (l .inv .1) (search needs) (simp (w .0 .left))),
     )))
     (c .if1 .came)
 
