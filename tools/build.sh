@@ -8,10 +8,10 @@ need_rt() {
     command -v rt >/dev/null || { say "rt, the Rattle toolchain's command, is not on the path"; exit 1; }
 }
 
-# Shows how a log ends, and gives up.
+# Shows how a log ends, without rt's lines on what it loaded, and gives up.
 failed() { # WORDS LOG
     say "$1; the end of $2:"
-    tail -n 20 "$2" >&2
+    grep -v -e '^statements ' -e '^library ' -e '^logic /' -e '^only=' "$2" | tail -n 20 >&2
     exit 1
 }
 

@@ -1,7 +1,8 @@
 // Every answer of document 01, "Answer numbers", and of document 02: its number, its sense bytes, what a refusal changes in the record and, of 8, the
 // faulty byte.
+#![tactic(auto)]
 
-#[derive(Drop)]
+#[derive(Clone, Copy)]
 pub enum Answer {
     Done,
     NotWellFormed,
@@ -25,7 +26,7 @@ pub enum Answer {
 }
 
 // Sense key, additional sense code and its qualifier; zeros where an answer has none.
-#[derive(Drop)]
+#[derive(Clone, Copy)]
 pub struct Sense {
     pub key: u8,
     pub asc: u8,
@@ -41,7 +42,7 @@ impl Sense {
 }
 
 // The column "Record change": what a refusal changes, in the marks of the nexus that sent the call.
-#[derive(Drop)]
+#[derive(Clone, Copy)]
 pub enum Change {
     Unchanged,
     AnotherCleared,
@@ -50,7 +51,7 @@ pub enum Change {
 }
 
 // A row of the table.
-#[derive(Drop)]
+#[derive(Clone, Copy)]
 pub struct Row {
     pub number: u8,
     pub sense: Sense,

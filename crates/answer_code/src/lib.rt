@@ -1,4 +1,6 @@
 // Every answer of document 01, "Answer numbers": its number, its sense bytes, what a refusal changes in the record and the faulty byte.
+#![tactic(auto)]
+
 ghost use Rattle.std.specs.Prelude.{◌≡◌};
 ghost use Rattle.answer.specs.Answers.{row_of, sense_of, is_done};
 

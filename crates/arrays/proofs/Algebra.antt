@@ -137,9 +137,12 @@ module _ {A : Type 0} where
   past-from [] b n h = refl
   past-from (x ∷ xs) b n h = rw (ne_eqb b n (λ e. omega arith)) (omega (arith, past-from xs (suc b) n (omega arith)))
 
+  first-from : (x : A) (xs : List A) (b n : ℕ) → n ≡ b → word_from (λ k (x : A). eqb k n) b (x ∷ xs) ≡ 1
+  first-from x xs b n e = rw (eq-eqb b n (sym e)) (omega (arith, past-from xs (suc b) n (omega arith)))
+
   one_from : (xs : List A) (b n : ℕ) → n < length xs → word_from (λ k (x : A). eqb k (b + n)) b xs ≡ 2 ^ n
   one_from [] b n h = absurd (not-suc-le-zero h)
-  one_from (x ∷ xs) b zero h = rw (add-zero, eq-eqb b b refl) (omega (arith, past-from xs (suc b) b (omega arith)))
+  one_from (x ∷ xs) b zero h = first-from x xs b (b + 0) (add-zero b)
   one_from (x ∷ xs) b (suc n) h =
       let r : word_from (λ k (y : A). eqb k (b + suc n)) (suc b) xs ≡ 2 ^ n = rw (add-suc b n, ← suc-add b n) (one_from xs (suc b) n (le_of_suc-le-suc h)) in
       rw (ne_eqb b (b + suc n) (λ e. omega arith)) (omega (arith, r, double n))

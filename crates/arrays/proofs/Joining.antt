@@ -8,7 +8,7 @@ use native.Mathlib.Omega.{arith}
 use borrow.Author.Tests.{eqb-true, eqb-false, eq-eqb, ne_eqb}
 use lib.Bits.{bit_or, bit_xor}
 use lib.Dec.{eqb}
-use Rattle.arrays.specs.Base.{if◌then◌else◌}
+use Rattle.arrays.specs.Base.{when◌then◌else◌}
 use Rattle.arrays.specs.Arrays.{runs, word_of}
 use Rattle.arrays.specs.Words.{some_below}
 use Rattle.arrays.proofs.Base.{cases, clash, if-same}
@@ -46,7 +46,7 @@ some-found p (suc m) e f =
 -- What changes at a place for an element that picked a and picks b: at a new place, that it is in either word; else that it is in one of
 -- the two alone.
 abbrev pub differs_at : (ℕ → Bool) → ℕ → ℕ → ℕ → Bool
-differs_at new a b place = if new place then eqb a place || eqb b place else apart (eqb a place) (eqb b place)
+differs_at new a b place = when new place then eqb a place || eqb b place else apart (eqb a place) (eqb b place)
 
 -- something changes at one of the places exactly if the element picks another place or its place is new
 pub some-changes : (new : ℕ → Bool) (m a b : ℕ) → a < m → some_below m (differs_at new a b) ≡ (not (eqb a b) || new a)
@@ -60,6 +60,6 @@ some-changes new m a b h =
     (λ t. rw t (some_at (differs_at new a b) m a h (rw (eq-eqb a a refl, ne_eqb b a (λ e. eqb-false a b t (sym e))) (if-same (new a) true))))
 
 -- the same of two words of one list
-pub word-changes : {A : Type 0} (new : Bool) (p q : ℕ → A → Bool) (xs : List A) → if new then bit_or (word_of p xs) (word_of q xs) else bit_xor (word_of p xs) (word_of q xs) ≡ word_of (λ k x. if new then p k x || q k x else apart (p k x) (q k x)) xs
+pub word-changes : {A : Type 0} (new : Bool) (p q : ℕ → A → Bool) (xs : List A) → when new then bit_or (word_of p xs) (word_of q xs) else bit_xor (word_of p xs) (word_of q xs) ≡ word_of (λ k x. when new then p k x || q k x else apart (p k x) (q k x)) xs
 word-changes true p q xs = word-or p q xs
 word-changes false p q xs = word-xor p q xs

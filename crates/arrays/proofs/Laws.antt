@@ -12,7 +12,7 @@ use borrow.Author.Tests.{eqb-true, eqb-false, eq-eqb, ltb-true, ltb-false}
 use lib.Dec.{eqb, ltb}
 use lib.ListN.{length, get_or, set, take, drop, length-map, get_or-map}
 use lib.Seq.{sets, get_or-set_same, get_or-set_other, set_out, get_or-drop, take-nil, drop-drop, drop-set-lt}
-use Rattle.arrays.specs.Base.{if◌then◌else◌}
+use Rattle.arrays.specs.Base.{when◌then◌else◌}
 use Rattle.arrays.specs.Arrays.{map_from, fold_from, each, all, find}
 use Rattle.arrays.proofs.Base.{cases, and_left, and_right, if-elim, if-true, if-false}
 use Rattle.arrays.proofs.Loops.{map_from-map}
@@ -43,7 +43,7 @@ module _ {A : Type 0} (p : ℕ → A → Bool) (d : A) where
 
 module _ {A R : Type 0} (at : ℕ → R) (none : R) (p : ℕ → A → Bool) (d : A) (P : R → Type 0) where
   -- from any element on
-  find-from : (xs : List A) (b : ℕ) → ((k : ℕ) → k < length xs → p (b + k) (get_or xs k d) ≡ true → P (at (b + k))) → P none → P (fold_from (λ k x r. if p k x then at k else r) none b xs)
+  find-from : (xs : List A) (b : ℕ) → ((k : ℕ) → k < length xs → p (b + k) (get_or xs k d) ≡ true → P (at (b + k))) → P none → P (fold_from (λ k x r. when p k x then at k else r) none b xs)
   find-from [] b f n = n
   find-from (x ∷ xs) b f n =
       if-elim P (p b x) (rw add-zero at (f zero (omega arith)))
@@ -54,7 +54,7 @@ module _ {A R : Type 0} (at : ℕ → R) (none : R) (p : ℕ → A → Bool) (d 
   find-by xs f n = find-from xs 0 (λ k h. rw zero-add (f k h)) n
 
 module _ {A R : Type 0} (at : ℕ → R) (none : R) (p : ℕ → A → Bool) (d : A) where
-  lowest-from : (xs : List A) (b k : ℕ) → k < length xs → p (b + k) (get_or xs k d) ≡ true → ((i : ℕ) → i < k → p (b + i) (get_or xs i d) ≡ false) → fold_from (λ j x r. if p j x then at j else r) none b xs ≡ at (b + k)
+  lowest-from : (xs : List A) (b k : ℕ) → k < length xs → p (b + k) (get_or xs k d) ≡ true → ((i : ℕ) → i < k → p (b + i) (get_or xs i d) ≡ false) → fold_from (λ j x r. when p j x then at j else r) none b xs ≡ at (b + k)
   lowest-from [] b k h t f = absurd (not-suc-le-zero h)
   lowest-from (x ∷ xs) b zero h t f = rw add-zero (if-true (p b x) _ _ (rw add-zero at t))
   lowest-from (x ∷ xs) b (suc k) h t f =
@@ -118,7 +118,7 @@ module _ {A : Type 0} (p : A → Bool) where
   all_append (x ∷ xs) ys = rw (all_cons x (xs ++ ys), all_append xs ys, all_cons x xs) (sym (and_assoc (p x) (all p xs) (all p ys)))
 
 -- the element at an index once another is stored
-pub get_d_set : {A : Type 0} (l : List A) (q p : ℕ) (v d : A) → get_or (set l q v) p d ≡ if eqb p q && ltb q (length l) then v else get_or l p d
+pub get_d_set : {A : Type 0} (l : List A) (q p : ℕ) (v d : A) → get_or (set l q v) p d ≡ when eqb p q && ltb q (length l) then v else get_or l p d
 get_d_set l q p v d =
     cases (eqb p q)
     (λ e. cases (ltb q (length l))
@@ -204,7 +204,7 @@ same_length r l m e = sym (length-map l r) ∙ ap length e ∙ length-map m r
 -- a search by a test of the element alone
 module _ {A R : Type 0} (at : ℕ → R) (none : R) (p : A → Bool) where
   abbrev from : ℕ → List A → R
-  from = fold_from (λ k x r. if p x then at k else r) none
+  from = fold_from (λ k x r. when p x then at k else r) none
 
   -- from any element on
   set-from : (l : List A) (k q : ℕ) (v : A) → p v ≡ false → (from k l ≡ at (k + q) → ⊥) → from k (set l q v) ≡ from k l
@@ -216,7 +216,7 @@ module _ {A R : Type 0} (at : ℕ → R) (none : R) (p : A → Bool) where
   set-from (x ∷ l) k (suc q) v e ne =
       cases (p x)
       (λ t. if-true (p x) (at k) _ t ∙ sym (if-true (p x) (at k) _ t))
-      (λ t. ap (λ (r : R). if p x then at k else r) (set-from l (suc k) q v e (λ y. ne (if-false (p x) (at k) _ t ∙ rw (add-suc k q, ← suc-add k q) y))))
+      (λ t. ap (λ (r : R). when p x then at k else r) (set-from l (suc k) q v e (λ y. ne (if-false (p x) (at k) _ t ∙ rw (add-suc k q, ← suc-add k q) y))))
 
   -- it is blind to an index that it did not stop at, where what comes there does not pass
   pub find-set : (l : List A) (q : ℕ) (v : A) → p v ≡ false → (find at none (λ k. p) l ≡ at q → ⊥) → find at none (λ k. p) (set l q v) ≡ find at none (λ k. p) l
@@ -224,10 +224,10 @@ module _ {A R : Type 0} (at : ℕ → R) (none : R) (p : A → Bool) where
 
   -- it finds the same where the test tells the same of each element
   pub find-same : (l m : List A) → map p l ≡ map p m → find at none (λ k. p) l ≡ find at none (λ k. p) m
-  find-same l m e = sym (over l) ∙ ap (λ (x : List Bool). fold_from (λ k b r. if b then at k else r) none 0 x) e ∙ over m
+  find-same l m e = sym (over l) ∙ ap (λ (x : List Bool). fold_from (λ k b r. when b then at k else r) none 0 x) e ∙ over m
     where
-      over : (l : List A) → fold_from (λ k b r. if b then at k else r) none 0 (map p l) ≡ find at none (λ k. p) l
-      over l = fold_from-map p (λ k b r. if b then at k else r) (λ k x r. if p x then at k else r) none (λ i x r. refl) 0 l
+      over : (l : List A) → fold_from (λ k b r. when b then at k else r) none 0 (map p l) ≡ find at none (λ k. p) l
+      over l = fold_from-map p (λ k b r. when b then at k else r) (λ k x r. when p x then at k else r) none (λ i x r. refl) 0 l
 
 -- ---- the first elements
 

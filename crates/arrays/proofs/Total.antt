@@ -67,9 +67,12 @@ module _ {B : Type 0} where
   never-from [] b place h = refl
   never-from (y ∷ ys) b place h = rw (ne_eqb place b (λ e. omega arith)) (omega (arith, never-from ys (suc b) place (omega arith)))
 
+  once-first : (y : B) (ys : List B) (b place : ℕ) → place ≡ b → fold_from (λ k (y : B) r. bit (eqb place k) + r) 0 b (y ∷ ys) ≡ 1
+  once-first y ys b place e = rw (eq-eqb place b e) (omega (arith, never-from ys (suc b) place (omega arith)))
+
   once-from : (ys : List B) (b place : ℕ) → place < length ys → fold_from (λ k (y : B) r. bit (eqb (b + place) k) + r) 0 b ys ≡ 1
   once-from [] b place h = absurd (not-suc-le-zero h)
-  once-from (y ∷ ys) b zero h = rw (add-zero, eq-eqb b b refl) (omega (arith, never-from ys (suc b) b (omega arith)))
+  once-from (y ∷ ys) b zero h = once-first y ys b (b + 0) (add-zero b)
   once-from (y ∷ ys) b (suc place) h =
       let r : fold_from (λ k (z : B) s. bit (eqb (b + suc place) k) + s) 0 (suc b) ys ≡ 1 = rw (add-suc b place, ← suc-add b place) (once-from ys (suc b) place (le_of_suc-le-suc h)) in
       rw (ne_eqb (b + suc place) b (λ e. omega arith)) (omega (arith, r))

@@ -11,7 +11,7 @@ use lib.Count.{count_trailing_zeros}
 use lib.Dec.{eqb}
 use lib.ListN.{length, get_or, drop, length-drop, drop_of_length-le}
 use lib.Pow.{pow_mono}
-use Rattle.arrays.specs.Base.{if◌then◌else◌, bit}
+use Rattle.arrays.specs.Base.{when◌then◌else◌, bit}
 use Rattle.arrays.specs.Arrays.{fold_from, find, word_of}
 use Rattle.arrays.proofs.Loops.{bit-few, unroll}
 
@@ -22,7 +22,7 @@ word_from p = fold_from (λ k x r. 2 * r + bit (p k x)) 0
 -- ---- the lowest set bit
 
 -- a word is 0 where its lowest digit is not set and the rest is 0
-zero-step : (q : Bool) (r : ℕ) → eqb (2 * r + bit q) 0 ≡ if q then false else eqb r 0
+zero-step : (q : Bool) (r : ℕ) → eqb (2 * r + bit q) 0 ≡ when q then false else eqb r 0
 zero-step true r = ne_eqb (2 * r + 1) 0 (λ e. omega arith)
 zero-step false r = rw add-zero (zero-double r)
   where
@@ -31,7 +31,7 @@ zero-step false r = rw add-zero (zero-double r)
     zero-double (suc r) = ne_eqb (2 * suc r) 0 (λ e. omega arith) ∙ sym (ne_eqb (suc r) 0 (λ e. omega arith))
 
 -- trailing zeros: none where the lowest digit is set, else one more than the rest has
-trail-step : (q : Bool) (m r : ℕ) → count_trailing_zeros (suc m) (2 * r + bit q) ≡ if q then 0 else suc (count_trailing_zeros m r)
+trail-step : (q : Bool) (m r : ℕ) → count_trailing_zeros (suc m) (2 * r + bit q) ≡ when q then 0 else suc (count_trailing_zeros m r)
 unfolding count_trailing_zeros
 trail-step true m r = let low : (2 * r + 1) % 2 ≡ 1 = omega arith in rw low
 trail-step false m r =
@@ -41,16 +41,16 @@ trail-step false m r =
 
 module _ {A R : Type 0} (at : ℕ → R) (none : R) (p : ℕ → A → Bool) where
   abbrev find_from : ℕ → List A → R
-  find_from = fold_from (λ k x r. if p k x then at k else r) none
+  find_from = fold_from (λ k x r. when p k x then at k else r) none
 
   -- the lowest that passes: the first, or the lowest of the rest
-  low_step : (q : Bool) (b t : ℕ) (none_left : Bool) (rest : R) → rest ≡ if none_left then none else at (suc b + t)
-      → if q then at b else rest ≡ if (if q then false else none_left) then none else at (b + (if q then 0 else suc t))
+  low_step : (q : Bool) (b t : ℕ) (none_left : Bool) (rest : R) → rest ≡ when none_left then none else at (suc b + t)
+      → when q then at b else rest ≡ when (when q then false else none_left) then none else at (b + (when q then 0 else suc t))
   low_step true b t none_left rest e = rw add-zero refl
   low_step false b t none_left rest e = rw (add-suc b t, ← suc-add b t) e
 
   -- from any element on
-  low-from : (xs : List A) (b m : ℕ) → length xs ≤ m → find_from b xs ≡ if eqb (word_from p b xs) 0 then none else at (b + count_trailing_zeros m (word_from p b xs))
+  low-from : (xs : List A) (b m : ℕ) → length xs ≤ m → find_from b xs ≡ when eqb (word_from p b xs) 0 then none else at (b + count_trailing_zeros m (word_from p b xs))
   low-from [] b m h = refl
   low-from (x ∷ xs) b zero h = absurd (not-suc-le-zero h)
   low-from (x ∷ xs) b (suc m) h =
@@ -58,7 +58,7 @@ module _ {A R : Type 0} (at : ℕ → R) (none : R) (p : ℕ → A → Bool) whe
       rw (zero-step (p b x) w, trail-step (p b x) m w) (low_step (p b x) b (count_trailing_zeros m w) (eqb w 0) _ (low-from xs (suc b) m (le_of_suc-le-suc h)))
 
   -- the trailing zeros of a word that is not 0, in a width m of digits, tell the lowest index that passes; where it is 0 none does
-  pub lowest-bit : (xs : List A) (m : ℕ) → length xs ≤ m → if eqb (word_of p xs) 0 then none else at (count_trailing_zeros m (word_of p xs)) ≡ find at none p xs
+  pub lowest-bit : (xs : List A) (m : ℕ) → length xs ≤ m → when eqb (word_of p xs) 0 then none else at (count_trailing_zeros m (word_of p xs)) ≡ find at none p xs
   lowest-bit xs m h = sym (rw zero-add at (low-from xs 0 m h))
 
 -- ---- a loop that goes down and forms a word

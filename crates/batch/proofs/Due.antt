@@ -1,13 +1,13 @@
 -- When a batch is answered 18, 22 and 0.
 -- Assumes nothing.
-use Prim.Native.Nat.{ℕ, ◌*◌, ◌/◌, ◌%◌, ◌≤◌, ◌<◌}
-use mathlib.Core.Path.{◌≡◌, refl, sym, ap, ◌∙◌}
+use Prim.Native.Nat.{ℕ, ◌*◌, ◌%◌}
+use mathlib.Core.Path.{◌≡◌, ap, ◌∙◌}
 use mathlib.Core.Bool.{Bool, true, false, ◌||◌, or-true}
 use mathlib.Core.List.{List}
 use borrow.Author.Tests.{lt-ltb, le-ltb, eq-eqb, eqb-true}
 use lib.Dec.{ltb, eqb}
 use lib.ListN.{length}
-use Rattle.arrays.specs.Base.{if◌then◌else◌}
+use Rattle.arrays.specs.Base.{when◌then◌else◌}
 use Rattle.arrays.proofs.Base.{cases, both, and_left, and_right, if-true, if-false}
 use Rattle.recording.specs.Verdicts.{verdict_number}
 use Rattle.recording.specs.Entries.{entries, all_sound}
@@ -24,7 +24,7 @@ module _ (events pages : List ℕ) (room : ℕ) where
   room-enough : Room events room → is_too_much events room ≡ false
   room-enough r = simp (le-ltb events_most (event_count events) r.few, le-ltb room (4 * event_count events) r.holds)
 
-  pub room-judged : Room events room → batch_verdict events pages room ≡ (if sound_batch events pages then Done else RecordingWrong)
+  pub room-judged : Room events room → batch_verdict events pages room ≡ (when sound_batch events pages then Done else RecordingWrong)
   room-judged r = if-false (is_too_much events room) BatchNotTaken _ (room-enough r)
 
   -- sound as it is worded, and as it is tested

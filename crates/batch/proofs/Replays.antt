@@ -7,7 +7,7 @@ use mathlib.Core.List.{List}
 use native.Mathlib.Omega.{arith}
 use borrow.Author.Tests.{eq-eqb}
 use lib.ListN.{length}
-use Rattle.arrays.specs.Base.{if◌then◌else◌}
+use Rattle.arrays.specs.Base.{when◌then◌else◌}
 use Rattle.arrays.proofs.Base.{if-map}
 use Rattle.wire.specs.Buffers.{shown}
 use Rattle.device.specs.Record.{State}
@@ -45,8 +45,8 @@ batch-as-file r events pages buffer whole room small =
     let fits : 8 + 8 * n + length pages < 65536 = omega (arith, small, eights) in
     let same : batch_verdict events pages (length buffer) ≡ file_verdict file =
     room-judged events pages (length buffer) room
-    ∙ ap (λ (b : Bool). if b && all_sound (length pages) (entries events) then Done else RecordingWrong) (eq-eqb _ _ whole)
-    ∙ ap (λ (b : Bool). if b then Done else RecordingWrong) (sym (made-sound events pages n eights fits)) in
+    ∙ ap (λ (b : Bool). when b && all_sound (length pages) (entries events) then Done else RecordingWrong) (eq-eqb _ _ whole)
+    ∙ ap (λ (b : Bool). when b then Done else RecordingWrong) (sym (made-sound events pages n eights fits)) in
     let made : calls events pages ≡ calls_of file = sym (made-calls events pages n eights fits) in
     record {
       verdict = same;
@@ -62,7 +62,7 @@ pub record AsSession (s : State) (events pages buffer file : List ℕ) : Type 0 
 
 module _ (s : State) (nexuses : 0 < length s.nexuses) (places : 0 < length s.sets) (w : well_formed s ≡ true) where
   formed-record : (verdict : Verdict) (calls : List Call) → record_after_of verdict (with_words s) calls ≡ with_words (record_after verdict s calls)
-  formed-record verdict calls = ap (λ (x : Worded). if is_taken verdict then x else with_words s) (words-after calls s nexuses places w) ∙ sym (if-map with_words (is_taken verdict) (run_from s calls) s)
+  formed-record verdict calls = ap (λ (x : Worded). when is_taken verdict then x else with_words s) (words-after calls s nexuses places w) ∙ sym (if-map with_words (is_taken verdict) (run_from s calls) s)
 
   -- From a well-formed record it equals that session.
   pub batch-as-session : (events pages buffer : List ℕ) → length events % 8 ≡ 0 → Room events (length buffer) → 8 + length events + length pages < 65536
@@ -73,5 +73,5 @@ module _ (s : State) (nexuses : 0 < length s.nexuses) (places : 0 < length s.set
       record {
         verdict = same.verdict;
         left = same.left ∙ formed-record (file_verdict file) (calls_of file);
-        told = same.told ∙ ap (λ (l : List ℕ). if is_taken (file_verdict file) then shown l buffer else buffer) (formed-answers s (calls_of file) nexuses places w);
+        told = same.told ∙ ap (λ (l : List ℕ). when is_taken (file_verdict file) then shown l buffer else buffer) (formed-answers s (calls_of file) nexuses places w);
       }

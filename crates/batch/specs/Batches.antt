@@ -1,6 +1,6 @@
 -- Document 02, request 5: "Several events in one call. The bridge board batches."
 use Rattle.std.specs.Prelude.{ℕ, ◌*◌, ◌/◌, ◌%◌, Bool, ◌&&◌, ◌||◌, List, ltb, eqb, length}
-use Rattle.arrays.specs.Base.{if◌then◌else◌}
+use Rattle.arrays.specs.Base.{when◌then◌else◌}
 use Rattle.device.specs.Words.{Worded}
 use Rattle.recording.specs.Entries.{entry_size, entries, all_sound, calls}
 use Rattle.recording.specs.declared.Verdict.{Verdict}
@@ -27,8 +27,8 @@ sound_batch events pages = eqb (length events % entry_size) 0 && all_sound (leng
 -- "18 comes first"
 abbrev pub batch_verdict : (events pages : List ℕ) (room : ℕ) → Verdict
 batch_verdict events pages room =
-    if is_too_much events room then BatchNotTaken
-    else if sound_batch events pages then Done
+    when is_too_much events room then BatchNotTaken
+    else when sound_batch events pages then Done
     else RecordingWrong
 
 -- the record after it, from "any starting record": a refused batch is refused "before any event runs"

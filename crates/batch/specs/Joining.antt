@@ -1,7 +1,7 @@
 -- Two batches, each with page bytes of its own, as one batch (proofs/Joined): the page bytes one after the other, and the pages of the later
 -- events as much further on. This is how a sender joins them, and no rule.
 use Rattle.std.specs.Prelude.{ℕ, ◌+◌, List, map}
-use Rattle.arrays.specs.Base.{if◌then◌else◌}
+use Rattle.arrays.specs.Base.{when◌then◌else◌}
 use Rattle.wire.specs.Parts.{joined}
 use Rattle.recording.specs.Forms.{form_of}
 use Rattle.recording.specs.Entries.{entries}
@@ -14,7 +14,7 @@ moved_entry k e = record {
   kind = e.kind;
   nexus = e.nexus;
   argument = e.argument;
-  page_offset = if (form_of e.kind).page then k + e.page_offset else e.page_offset;
+  page_offset = when (form_of e.kind).page then k + e.page_offset else e.page_offset;
   page_length = e.page_length;
 }
 

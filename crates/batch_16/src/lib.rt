@@ -1,4 +1,6 @@
 // Several events in one call, on the drive of this model.
+#![tactic(auto)]
+
 ghost use Rattle.device_16.specs.Model.{worded};
 ghost use Rattle.batch_16.specs.Batches.{Batched};
 

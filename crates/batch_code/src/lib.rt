@@ -1,4 +1,6 @@
 // The verdict of a batch.
+#![tactic(auto)]
+
 ghost use Rattle.std.specs.Prelude.{◌≡◌};
 ghost use Rattle.batch.specs.Batches.{is_too_much, sound_batch, batch_verdict};
 

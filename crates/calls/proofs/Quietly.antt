@@ -5,7 +5,7 @@ use mathlib.Core.Path.{◌≡◌, refl, sym, ap, ◌∙◌}
 use mathlib.Core.Bool.{Bool, true, false, ◌||◌}
 use mathlib.Core.List.{List}
 use lib.ListN.{length}
-use Rattle.arrays.specs.Base.{if◌then◌else◌}
+use Rattle.arrays.specs.Base.{when◌then◌else◌}
 use Rattle.arrays.proofs.Base.{cases, clash}
 use Rattle.answer.specs.Answers.{change_of, is_done}
 use Rattle.answer.specs.declared.Answer.{Answer}
@@ -55,7 +55,7 @@ pub record Still (rule : Telling) (formed : Bool) (s : State) (call : Call) (a :
   pub running : is_power_up call ≡ false
 
 -- neither is power-on
-or-none : {A : Type 0} (b : Bool) (x y : A) → if b || false then x else y ≡ if b then x else y
+or-none : {A : Type 0} (b : Bool) (x y : A) → when b || false then x else y ≡ when b then x else y
 or-none true x y = refl
 or-none false x y = refl
 

@@ -1,6 +1,6 @@
 -- What a kind asks of the drive, with a nexus, an argument and, for IN and OUT, a protocol.
 use Rattle.std.specs.Prelude.{ℕ, Bool, true, false, List, eqb}
-use Rattle.arrays.specs.Base.{if◌then◌else◌}
+use Rattle.arrays.specs.Base.{when◌then◌else◌}
 use Rattle.places.specs.declared.Event.{Event}
 use Rattle.places.specs.declared.Event.TheVariants.{Demount, NexusLoss, DeviceLoss, Preempt, Microcode, VendorRelease}
 use Rattle.drive.specs.declared.Command.{Command}
@@ -24,22 +24,22 @@ supports argument = eqb argument 1
 -- ".. the place, .."; the nexus is whose reservation is lost, or the preemptor
 unfoldable pub event_of : (kind nexus argument : ℕ) → Event
 event_of kind nexus argument =
-    if eqb kind demount_kind then Demount
-    else if eqb kind nexus_loss_kind then NexusLoss nexus
-    else if eqb kind device_loss_kind then DeviceLoss
-    else if eqb kind preempt_kind then Preempt nexus
-    else if eqb kind microcode_kind then Microcode
+    when eqb kind demount_kind then Demount
+    else when eqb kind nexus_loss_kind then NexusLoss nexus
+    else when eqb kind device_loss_kind then DeviceLoss
+    else when eqb kind preempt_kind then Preempt nexus
+    else when eqb kind microcode_kind then Microcode
     else VendorRelease argument
 
 -- ".. or block kind times 256 plus key": `block_of`. A kind that is no call's is not asked: it reads as power-on's.
 unfoldable pub asked_of : (kind nexus argument protocol : ℕ) → Asked
 asked_of kind nexus argument protocol =
-    if eqb kind in_kind then In (command_of nexus protocol argument)
-    else if eqb kind out_kind then Out (command_of nexus protocol argument)
-    else if eqb kind write_kind then Write nexus (supports argument)
-    else if eqb kind unit_reset_kind then UnitReset
-    else if is_event kind then Happen (event_of kind nexus argument)
-    else if eqb kind read_kind then Read nexus (block_of argument)
+    when eqb kind in_kind then In (command_of nexus protocol argument)
+    else when eqb kind out_kind then Out (command_of nexus protocol argument)
+    else when eqb kind write_kind then Write nexus (supports argument)
+    else when eqb kind unit_reset_kind then UnitReset
+    else when is_event kind then Happen (event_of kind nexus argument)
+    else when eqb kind read_kind then Read nexus (block_of argument)
     else PowerOn
 
 -- the call: only OUT has a page

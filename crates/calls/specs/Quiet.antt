@@ -1,7 +1,7 @@
 -- IN, writes and reads change at most the marks of their sender: what they change is found by the sender and its set alone, and one that
 -- changes nothing needs no record made anew.
 use Rattle.std.specs.Prelude.{ℕ, Bool, false, [], ◌∷◌, ◌++◌}
-use Rattle.arrays.specs.Base.{if◌then◌else◌}
+use Rattle.arrays.specs.Base.{when◌then◌else◌}
 use Rattle.answer.specs.Answers.{change_of, is_done}
 use Rattle.answer.specs.declared.Answer.{Answer}
 use Rattle.answer.specs.declared.Answer.TheVariants.{Done, NotWellFormed}
@@ -30,14 +30,14 @@ sender_number (Happen event) = 0
 
 -- what a call with that answer changes of its sender's marks, where carried out it makes this change
 abbrev pub change_by : (doing : Change) → Answer → Change
-change_by doing a = if is_done a then doing else change_of a
+change_by doing a = when is_done a then doing else change_of a
 
 abbrev quiet_with : Marks → (doing : Change) → Answer → Quiet
 quiet_with marks doing a = record { quiet = keeps_marks marks (change_by doing a); answer = a; change = change_by doing a }
 
 -- a call with that answer to its checks after the first, where it is known whether the record is well formed
 abbrev pub quiet_by : (formed : Bool) → Marks → (doing : Change) → Answer → Quiet
-quiet_by formed marks doing a = quiet_with marks doing (if formed then a else NotWellFormed)
+quiet_by formed marks doing a = quiet_with marks doing (when formed then a else NotWellFormed)
 
 -- any other call
 abbrev pub not_quiet : Quiet

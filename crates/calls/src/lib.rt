@@ -1,4 +1,6 @@
 // Any call of the drive as data: what a command of the stream or an event of a recording asks for.
+#![tactic(auto)]
+
 use answer::{Answer, Change};
 use drive::{Block, Command};
 use places::Event;
@@ -27,7 +29,7 @@ pub const VENDOR_RELEASE: u8 = 10;
 pub const READ: u8 = 11;
 
 // A call. The page of an OUT stands beside it.
-#[derive(Drop)]
+#[derive(Clone, Copy)]
 pub enum Asked {
     PowerOn,
     In(Command),
@@ -40,7 +42,7 @@ pub enum Asked {
 
 // Of IN, a write or a read, by its sender and the set that it uses alone: whether it leaves the record as it is, its answer, and what it
 // changes of its sender's marks.
-#[derive(Drop)]
+#[derive(Clone, Copy)]
 pub struct Quiet {
     pub quiet: bool,
     pub answer: Answer,

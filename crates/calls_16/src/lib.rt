@@ -1,4 +1,6 @@
 // Any call on the drive of this model, where it is known whether the record is well formed: check 1 was made before.
+#![tactic(auto)]
+
 ghost use Rattle.std.specs.Prelude.{◌≡◌};
 ghost use Rattle.device_16.specs.Model.{state, worded};
 ghost use Rattle.drive.specs.Checks.{answer_where};
@@ -14,7 +16,7 @@ use drive_16::Outcome;
 use sizes_16::NEXUSES;
 
 // A nexus, and the set that it uses.
-#[derive(Drop)]
+#[derive(Clone, Copy)]
 pub struct Sight {
     pub nexus: Nexus,
     pub set: Set,

@@ -1,4 +1,6 @@
 // What a kind asks of the drive.
+#![tactic(auto)]
+
 ghost use Rattle.std.specs.Prelude.{◌≡◌, [], ◌∷◌, ◌++◌};
 ghost use Rattle.drive.specs.Restoring.{restored};
 ghost use Rattle.drive.specs.Checks.{first_of, heard, permitted};

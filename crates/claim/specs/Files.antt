@@ -1,6 +1,6 @@
 -- Document 02, request 11: the claim of a recorded session, where there are that many nexuses and places.
 use Rattle.std.specs.Prelude.{ℕ, ◌≡◌, Bool, List, [], eqb, leb, length}
-use Rattle.arrays.specs.Base.{if◌then◌else◌}
+use Rattle.arrays.specs.Base.{when◌then◌else◌}
 use Rattle.arrays.specs.Arrays.{count}
 use Rattle.wire.specs.Buffers.{shown}
 use Rattle.device.specs.Record.{power_on}
@@ -23,7 +23,7 @@ rate_most = 1000000
 
 -- "A higher rate is refused with 23, after 22"
 unfoldable pub claim_verdict : (rate : ℕ) (file : List ℕ) → Verdict
-claim_verdict rate file = if sound_file file then if leb rate rate_most then Done else RateAbove else RecordingWrong
+claim_verdict rate file = when sound_file file then when leb rate rate_most then Done else RateAbove else RecordingWrong
 
 -- "the number of write events, taken from the file"
 abbrev pub is_write_event : Entry → Bool
@@ -45,7 +45,7 @@ module _ (nexuses places : ℕ) where
 
   -- ".. and nothing is printed"
   unfoldable pub claim_printed : (rate : ℕ) (file : List ℕ) → List ℕ
-  claim_printed rate file = if is_taken (claim_verdict rate file) then claim_text rate file else []
+  claim_printed rate file = when is_taken (claim_verdict rate file) then claim_text rate file else []
 
   -- what a claim gives: the verdict and the text's length, and each byte of the lent buffer, which gets the text's first bytes, as many as
   -- it holds

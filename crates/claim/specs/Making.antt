@@ -1,6 +1,6 @@
 -- How the code makes a claim: no rule, but what its promises say.
 use Rattle.std.specs.Prelude.{ℕ, List, [], ◌∷◌, length, get_or, set}
-use Rattle.arrays.specs.Base.{if◌then◌else◌}
+use Rattle.arrays.specs.Base.{when◌then◌else◌}
 use Rattle.wire.specs.Buffers.{padded}
 use Rattle.answer.specs.Answers.{is_done}
 use Rattle.answer.specs.declared.Answer.{Answer}
@@ -16,7 +16,7 @@ use Rattle.claim.specs.Rows.{row_of_nexus, no_writes, plus, one}
 
 -- what became of a write with that answer, under a set of that mode
 abbrev pub became_by : Answer → (mode : ℕ) → Decision
-became_by a mode = if is_done a then decided mode else Refused
+became_by a mode = when is_done a then decided mode else Refused
 
 -- it is added to its own row, as the code does it
 abbrev pub noted : (nexuses : ℕ) → Wrote → List Row → List Row

@@ -1,6 +1,6 @@
 -- Document 02, request 11: "for each nexus the writes encrypted, external, clear and refused, then a line of totals".
 use Rattle.std.specs.Prelude.{ℕ, zero, suc, ◌+◌, Bool, ◌&&◌, List, [], ◌∷◌, eqb, ltb}
-use Rattle.arrays.specs.Base.{if◌then◌else◌}
+use Rattle.arrays.specs.Base.{when◌then◌else◌}
 use Rattle.arrays.specs.Arrays.{fold_from, count}
 use Rattle.drive.specs.Outcomes.{value_of}
 use Rattle.drive.specs.declared.Decision.{Decision}
@@ -11,7 +11,7 @@ use Rattle.claim.specs.Writes.{Wrote}
 -- a write counts "in its own nexus's row; those with a nexus above 15 have a seventeenth row": where there are that many nexuses, the row
 -- after theirs
 abbrev pub row_of_nexus : (nexuses n : ℕ) → ℕ
-row_of_nexus nexuses n = if ltb n nexuses then n else nexuses
+row_of_nexus nexuses n = when ltb n nexuses then n else nexuses
 
 -- it counts in row k, as encrypted, external, clear or refused
 abbrev pub counts_as : (nexuses k : ℕ) → Decision → Wrote → Bool

@@ -1,8 +1,10 @@
 // Document 02, request 11: what a recorded session claims.
+#![tactic(auto)]
+
 use recording::Verdict;
 
 // How many writes went down encrypted, external and clear, and how many were refused.
-#[derive(Drop)]
+#[derive(Clone, Copy)]
 pub struct Row {
     pub encrypted: u64,
     pub external: u64,
@@ -26,14 +28,14 @@ pub const RATE_MOST: u64 = 1000000;
 pub const LINE_MOST: usize = 128;
 
 // A line of the claim, its first bytes; zeros after them.
-#[derive(Drop)]
+#[derive(Clone, Copy)]
 pub struct Line {
     pub bytes: [u8; LINE_MOST],
     pub length: usize,
 }
 
 // What a claim is answered: its verdict, and the length of its text.
-#[derive(Drop)]
+#[derive(Clone, Copy)]
 pub struct Claimed {
     pub verdict: Verdict,
     pub length: usize,

@@ -1,4 +1,6 @@
 // The claim of a recorded session on the drive of this model.
+#![tactic(auto)]
+
 ghost use Rattle.std.specs.Prelude.{◌≡◌, [], ◌∷◌, ◌+◌, ◌*◌, ◌≤◌, ◌<◌, ◌^◌, length, take};
 ghost use Rattle.text.specs.Puts.{Put};
 ghost use Rattle.sizes_16.specs.Sizes.{nexus_count, place_count};

@@ -1,4 +1,6 @@
 // The lines of a claim, and what became of a write.
+#![tactic(auto)]
+
 ghost use Rattle.std.specs.Prelude.{◌≡◌, ◌+◌, ◌≤◌, ◌<◌};
 ghost use Rattle.text.specs.Puts.{Put};
 ghost use Rattle.claim.specs.Rows.{row_of_nexus};

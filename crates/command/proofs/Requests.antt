@@ -5,7 +5,7 @@ use mathlib.Core.Bool.{Bool, true, false, ◌&&◌}
 use native.Mathlib.Omega.{arith}
 use borrow.Author.Tests.{leb-true}
 use lib.Dec.{leb, eqb}
-use Rattle.arrays.specs.Base.{if◌then◌else◌}
+use Rattle.arrays.specs.Base.{when◌then◌else◌}
 use Rattle.arrays.proofs.Base.{cases, and_left}
 use Rattle.calls.specs.Kinds.{is_call}
 use Rattle.command.specs.Kinds.{batch_kind, serves_kind, read_status_kind, take_record_kind, give_record_kind}
@@ -15,7 +15,7 @@ use Rattle.command.specs.declared.Order.{Order}
 use Rattle.command.specs.declared.Order.TheVariants.{Unknown, Serves, ReadStatus, TakeRecord, GiveRecord}
 
 -- either of two orders lends at most 4,096 bytes where each does
-either : (b : Bool) (x y : Order) → lent_size x ≤ lent_most → lent_size y ≤ lent_most → lent_size (if b then x else y) ≤ lent_most
+either : (b : Bool) (x y : Order) → lent_size x ≤ lent_most → lent_size y ≤ lent_most → lent_size (when b then x else y) ≤ lent_most
 either true x y h k = h
 either false x y h k = k
 

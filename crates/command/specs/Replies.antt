@@ -1,6 +1,6 @@
 -- docs/CONSOLE.md, "Reply: 6 bytes, then data": how a command is answered, and the record after it, for a record of any sizes.
 use Rattle.std.specs.Prelude.{ℕ, Bool, List, [], ◌∷◌, ◌++◌, length}
-use Rattle.arrays.specs.Base.{if◌then◌else◌, bit}
+use Rattle.arrays.specs.Base.{when◌then◌else◌, bit}
 use Rattle.wire.specs.Numbers.{two, four, eight}
 use Rattle.answer.specs.Answers.{number_of, sense_of, faulty_byte_of, is_done, is_field_wrong}
 use Rattle.answer.specs.declared.Answer.{Answer}
@@ -61,11 +61,11 @@ unknown_reply r = record { number = unknown_number; sense = sense_of Done; bytes
 
 -- data that are given where the answer is 0
 abbrev pub when_done : Answer → List ℕ → List ℕ
-when_done a bytes = if is_done a then bytes else []
+when_done a bytes = when is_done a then bytes else []
 
 -- a page that is answered 8: "the number of the faulty byte"
 abbrev pub pointer : Answer → List ℕ
-pointer a = if is_field_wrong a then two (faulty_byte_of a) else []
+pointer a = when is_field_wrong a then two (faulty_byte_of a) else []
 
 -- a call of the drive's that gives its answer alone
 abbrev pub called : Worded → Call → Replied
@@ -123,14 +123,14 @@ values_bytes v = values_head v ++ kads_bytes v.kads
 unfoldable pub status_reply : Worded → List ℕ → Replied
 status_reply r page =
     let read = read_status page in
-    answered read.answer (if is_done read.answer then values_bytes read.status else pointer read.answer) r
+    answered read.answer (when is_done read.answer then values_bytes read.status else pointer read.answer) r
 
 -- "Data of another length, or with a yes/no byte above 1, are answered 1, and the record stays."
 unfoldable pub take_reply : Worded → List ℕ → Replied
 take_reply r bytes =
     let nexuses = length r.state.nexuses in
     let places = length r.state.sets in
-    if good_bytes nexuses places bytes then answered Done [] (record_read nexuses places bytes) else answered NotWellFormed [] r
+    when good_bytes nexuses places bytes then answered Done [] (record_read nexuses places bytes) else answered NotWellFormed [] r
 
 unfoldable pub give_reply : Worded → Replied
 give_reply r = answered Done (record_bytes r) r
@@ -150,7 +150,7 @@ unfoldable pub batch_reply : Worded → (bytes lent : List ℕ) → Replied
 batch_reply r bytes lent =
     let events = batch_events bytes in
     let pages = batch_pages bytes in
-    if holds_events bytes
+    when holds_events bytes
     then record { number = verdict_number (batch_verdict events pages (length lent)); sense = sense_of Done; bytes = batch_buffer r events pages lent; after = batch_record r events pages lent }
     else unknown_reply r
 

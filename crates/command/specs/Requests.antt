@@ -1,6 +1,6 @@
 -- docs/CONSOLE.md, "Command: 8 bytes, then data": what the bytes tell, and what a command orders.
 use Rattle.std.specs.Prelude.{ℕ, ◌+◌, Bool, not, ◌&&◌, ◌||◌, List, leb, eqb, length, take, drop}
-use Rattle.arrays.specs.Base.{if◌then◌else◌}
+use Rattle.arrays.specs.Base.{when◌then◌else◌}
 use Rattle.wire.specs.Numbers.{byte_at, word_at}
 use Rattle.calls.specs.Kinds.{in_kind, write_kind, is_call}
 use Rattle.calls.specs.Asking.{flag_most, asked_of}
@@ -30,7 +30,7 @@ lent_most = 4096
 
 -- IN's is L; no other call has one
 abbrev pub lent_to : Request → ℕ
-lent_to r = if eqb r.kind in_kind then r.length else 0
+lent_to r = when eqb r.kind in_kind then r.length else 0
 
 -- write: "1 where the volume supports algorithm 1, else 0"; "a flag is never guessed"
 abbrev pub flag_known : Request → Bool
@@ -38,25 +38,25 @@ flag_known r = not (eqb r.kind write_kind) || leb r.argument flag_most
 
 -- "an IN with L above 4,096, a write with an argument above 1"
 unfoldable pub call_order : Request → Order
-call_order r = if leb (lent_to r) lent_most && flag_known r then Ask (request_asked r) (lent_to r) else Unknown
+call_order r = when leb (lent_to r) lent_most && flag_known r then Ask (request_asked r) (lent_to r) else Unknown
 
 -- batch: its buffer's size is the argument
 abbrev pub batch_order : Request → Order
-batch_order r = if leb r.argument lent_most then Batch r.argument else Unknown
+batch_order r = when leb r.argument lent_most then Batch r.argument else Unknown
 
 -- a kind that is no call of the drive's
 unfoldable pub tool_order : Request → Order
 tool_order r =
-    if eqb r.kind batch_kind then batch_order r
-    else if eqb r.kind serves_kind then Serves r.argument
-    else if eqb r.kind read_status_kind then ReadStatus
-    else if eqb r.kind take_record_kind then TakeRecord
-    else if eqb r.kind give_record_kind then GiveRecord
+    when eqb r.kind batch_kind then batch_order r
+    else when eqb r.kind serves_kind then Serves r.argument
+    else when eqb r.kind read_status_kind then ReadStatus
+    else when eqb r.kind take_record_kind then TakeRecord
+    else when eqb r.kind give_record_kind then GiveRecord
     else Unknown
 
 -- "An unknown command is one of a kind not in the table (14 to 252), .."
 unfoldable pub order_of : Request → Order
-order_of r = if is_call r.kind then call_order r else tool_order r
+order_of r = when is_call r.kind then call_order r else tool_order r
 
 -- the size of the buffer that is lent to it
 abbrev pub lent_size : Order → ℕ

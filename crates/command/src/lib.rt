@@ -1,4 +1,6 @@
 // A command of docs/CONSOLE.md: what its 8 bytes tell, and what it orders.
+#![tactic(auto)]
+
 use calls::Asked;
 
 // The kinds that are no calls of the drive's; those of calls are in crate calls.
@@ -19,7 +21,7 @@ pub const LENT_MOST: u16 = 4096;
 pub const UNKNOWN: u8 = 255;
 
 // The 8 bytes of a command.
-#[derive(Drop)]
+#[derive(Clone, Copy)]
 pub struct Request {
     pub kind: u8,
     pub nexus: u8,
@@ -29,7 +31,7 @@ pub struct Request {
 }
 
 // What a command orders. Ask holds a call of the drive's and the size of the buffer that is lent to IN, Batch that of its own, Serves the place.
-#[derive(Drop)]
+#[derive(Clone, Copy)]
 pub enum Order {
     Unknown,
     Ask(Asked, u16),

@@ -1,4 +1,6 @@
 // A command read, what it orders, and the bytes before a reply's data.
+#![tactic(auto)]
+
 ghost use Rattle.std.specs.Prelude.{◌≡◌};
 ghost use Rattle.command.specs.Kinds.{has_data};
 ghost use Rattle.command.specs.Requests.{request_of, lent_to, call_order, batch_order, tool_order, order_of, batch_events, batch_pages, holds_events};

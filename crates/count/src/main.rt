@@ -1,9 +1,12 @@
 // Makes one kind of call many times over, for counting its instructions (bench/run). Input: the kind, the turns divided by ten, and
 // the nexus that calls.
+#![tactic(auto)]
+
 use device_16::Record;
 use drive::{Block, Command};
 use places::Event;
 use sizes_16::PLACES;
+use std::io::{Read, Write};
 
 fn page_k() -> [u8; 52] {
     let mut p = [0u8; 52];
@@ -165,9 +168,10 @@ fn turns_of(b: u8) -> u32 {
     b as u32 * 10
 }
 
-fn main() {
+// A read or a write that fails is passed over.
+fn main(rt: HostRuntime) {
     let mut input = [0u8; 3];
-    libc::read(0, &mut input);
+    let _ = rt.stdin().read(&mut input);
     let page = page_k();
     let first = drive_16::power_on();
     let on = first.after;
@@ -177,5 +181,5 @@ fn main() {
     let turns = turns_of(input[1]);
     let d = run(start, kind, input[2], turns);
     let out = [(d.device.counter % 256) as u8];
-    io::write_all(1, &out);
+    let _ = rt.stdout().write_all(&out);
 }

@@ -1,10 +1,16 @@
 // Plays a recording in one of four ways, for counting its instructions (bench/run). Input: the way, then the recording. 0 reads its
 // events alone, 1 makes each call by itself, 2 replays it, 3 sends it in batches of 64. Output: the record at the end.
+#![tactic(auto)]
+
 use batch::EVENTS_MOST;
 use calls::Asked;
 use device_16::Record;
 use recording::ENTRY_SIZE;
 use session::{ANSWER_SIZE, ANSWERS_MOST};
+use std::io::Write;
+
+// Room for the way and the recording.
+const INPUT_ROOM: usize = 65536;
 
 // The bytes of the events of a full batch.
 const BATCH_SIZE: usize = ENTRY_SIZE * EVENTS_MOST;
@@ -92,7 +98,8 @@ fn in_batches(start: Record, events: &[u8], pages: &[u8]) -> Record {
     send(r, rest, pages)
 }
 
-fn play(way: u8, file: &[u8]) -> Record {
+// What reading alone sees goes to standard error.
+fn play<W: Write>(seen_to: &mut W, way: u8, file: &[u8]) -> Record {
     let start = words_16::power_on();
     let events = recording_code::events_of(file);
     let pages = recording_code::pages_of(file);
@@ -108,16 +115,17 @@ fn play(way: u8, file: &[u8]) -> Record {
         return in_batches(start, events, pages);
     }
     let seen = [read_alone(events, pages)];
-    io::write_all(2, &seen);
+    let _ = seen_to.write_all(&seen);
     start
 }
 
-fn main() {
-    let mut input = io::large_buffer();
-    let length = io::read_full(0, &mut input);
+// A read or a write that fails is passed over.
+fn main(rt: HostRuntime) {
+    let mut input = [0u8; INPUT_ROOM];
+    let length = pipe::read_full(&mut rt.stdin(), &mut input).unwrap_or(0);
     if length == 0 {
         return;
     }
-    let bytes = record_16::record_bytes(play(input[0], &input[1..length]));
-    io::write_all(1, &bytes);
+    let bytes = record_16::record_bytes(play(&mut rt.stderr(), input[0], &input[1..length]));
+    let _ = rt.stdout().write_all(&bytes);
 }

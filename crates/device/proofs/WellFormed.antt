@@ -8,7 +8,7 @@ use native.Mathlib.Omega.{arith}
 use borrow.Author.Tests.{ltb-true, ltb-false, leb-true, eqb-true, not-true, lt-ltb, le-leb, eq-eqb, ne_eqb}
 use lib.Dec.{lit≤, eqb, ltb}
 use lib.ListN.{length, get_or, length-replicate, get_or-replicate, get_or-eq_default}
-use Rattle.arrays.specs.Base.{if◌then◌else◌}
+use Rattle.arrays.specs.Base.{when◌then◌else◌}
 use Rattle.arrays.specs.Arrays.{each, all, count}
 use Rattle.arrays.proofs.Base.{cases, both, clash, not-zero, if-elim, if-map, and_both, each_holds, or-other, or-of, or-then, then-or, or-if, same_truth}
 use Rattle.arrays.proofs.Counting.{count_none, count_same}
@@ -30,7 +30,7 @@ use Rattle.device.specs.declared.Nexus.{Nexus}
 
 -- the scope that a used place has: "a used place 0 has scope ALL and any other used place LOCAL"
 abbrev pub place_scope : ℕ → ℕ
-place_scope place = if eqb place 0 then all_scope else local_scope
+place_scope place = when eqb place 0 then all_scope else local_scope
 
 -- it is LOCAL at each place other than 0
 pub place-local : (place : ℕ) → 0 < place → place_scope place ≡ local_scope

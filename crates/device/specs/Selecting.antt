@@ -1,6 +1,6 @@
 -- Document 01: "A LOCAL nexus uses its own place; PUBLIC and ALL nexuses use place 0."
 use Rattle.std.specs.Prelude.{ℕ, Bool, ◌&&◌, List, eqb}
-use Rattle.arrays.specs.Base.{if◌then◌else◌}
+use Rattle.arrays.specs.Base.{when◌then◌else◌}
 use Rattle.arrays.specs.Arrays.{find}
 use Rattle.parameters.specs.Codes.{local_scope}
 use Rattle.device.specs.Record.{State, set_at, nexus_at}
@@ -23,7 +23,7 @@ or_else Nowhere other = other
 
 -- the place whose set nexus n uses, given the nexus and the sets
 abbrev pub place_of : Nexus → ℕ → List Set → ℕ
-place_of nexus n sets = if eqb nexus.scope local_scope then or_else (owned_place sets n) 0 else 0
+place_of nexus n sets = when eqb nexus.scope local_scope then or_else (owned_place sets n) 0 else 0
 
 unfoldable pub selected : State → ℕ → ℕ
 selected s n = place_of (nexus_at s n) n s.sets

@@ -1,11 +1,13 @@
 // The device record: sets in places, nexuses, the running counter.
+#![tactic(auto)]
+
 ghost use Rattle.std.specs.Prelude.{◌≡◌};
 ghost use Rattle.device.specs.Record.{established};
 
 use parameters::{Fields, Supplemental};
 
 // The set of parameters in a place. Scope 0 is an empty place; its instance number stays.
-#[derive(Drop)]
+#[derive(Clone, Copy)]
 pub struct Set {
     pub owner: u8,
     pub scope: u8,
@@ -39,7 +41,7 @@ impl Set {
 }
 
 // The registered mark, and the two pending unit attention flags: changed by another nexus, by a vendor event.
-#[derive(Drop)]
+#[derive(Clone, Copy)]
 pub struct Marks {
     pub registered: bool,
     pub another: bool,
@@ -47,7 +49,7 @@ pub struct Marks {
 }
 
 // saved is the instance number saved at lock, last_local that of the nexus's last LOCAL set.
-#[derive(Drop)]
+#[derive(Clone, Copy)]
 pub struct Nexus {
     pub scope: u8,
     pub lock: bool,
@@ -71,7 +73,7 @@ impl Nexus {
 }
 
 // A place, or none.
-#[derive(Drop)]
+#[derive(Clone, Copy)]
 pub enum Found {
     At(usize),
     Nowhere,

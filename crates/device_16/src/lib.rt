@@ -1,4 +1,6 @@
 // The device record of this model: sets in places, nexuses, the running counter.
+#![tactic(auto)]
+
 ghost use Rattle.std.specs.Prelude.{◌≡◌, ◌<◌, get_or};
 ghost use Rattle.sizes_16.specs.Sizes.{nexus_count, place_count};
 ghost use Rattle.device_16.specs.Model.{state, device, numbers_of};
@@ -9,7 +11,7 @@ use device::{Found, Nexus, Set};
 use parameters::LOCAL;
 use sizes_16::{NEXUSES, PLACES};
 
-#[derive(Drop)]
+#[derive(Clone, Copy)]
 pub struct Device {
     pub counter: u32,
     pub sets: [Set; PLACES],
@@ -17,7 +19,7 @@ pub struct Device {
 }
 
 // The device, and beside each place the word whose bit n says that nexus n selects this place.
-#[derive(Drop)]
+#[derive(Clone, Copy)]
 pub struct Record {
     pub device: Device,
     pub words: [u64; PLACES],

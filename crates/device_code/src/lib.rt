@@ -1,4 +1,6 @@
 // The device record: sets in places, nexuses, the running counter.
+#![tactic(auto)]
+
 ghost use Rattle.std.specs.Prelude.{◌≡◌};
 ghost use Rattle.arrays.specs.Arrays.{count};
 ghost use Rattle.device.specs.Selecting.{owns, or_else};

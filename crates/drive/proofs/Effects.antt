@@ -7,7 +7,7 @@ use mathlib.Core.List.{List, [], ◌∷◌, ◌++◌}
 use borrow.Author.Tests.{leb-false}
 use lib.Dec.{eqb}
 use lib.ListN.{length, length-set, length-map}
-use Rattle.arrays.specs.Base.{if◌then◌else◌}
+use Rattle.arrays.specs.Base.{when◌then◌else◌}
 use Rattle.arrays.proofs.Base.{cases, clash, if-elim, if-false}
 use Rattle.arrays.proofs.Laws.{length-map_from}
 use Rattle.answer.specs.Answers.{number_of, is_done, change_of}
@@ -216,19 +216,19 @@ restarts-anyway s t call = restarts-power s call ∙ sym (restarts-power t call)
 -- ---- a write and a read: checks 1 to 4, then their own
 
 -- an answer that changes nothing does nothing
-quiet-nothing : (n : ℕ) (a : Answer) → change_of a ≡ Unchanged → if is_done a then nothing else refusal (Acting n) (change_of a) ≡ nothing
+quiet-nothing : (n : ℕ) (a : Answer) → change_of a ≡ Unchanged → when is_done a then nothing else refusal (Acting n) (change_of a) ≡ nothing
 quiet-nothing n a e = if-elim (λ x. x ≡ nothing) (is_done a) (λ t. refl) (λ f. ap (refusal (Acting n)) e)
 
 -- where their own change nothing, checks 1 to 4 alone decide what the call does
 heard-effect : (s : State) (n : ℕ) (own : List Answer) → change_of (first_of own) ≡ Unchanged → let a = first_of ((check1 s ∷ heard_of s n) ++ own) in
-    if is_done a then nothing else refusal (Acting n) (change_of a) ≡ refusal (Acting n) (change_of (first_of (check1 s ∷ heard_of s n)))
+    when is_done a then nothing else refusal (Acting n) (change_of a) ≡ refusal (Acting n) (change_of (first_of (check1 s ∷ heard_of s n)))
 heard-effect s n own quiet =
     let first = check1 s ∷ heard_of s n in
     cases (is_done (first_of first))
     (λ t.
-    ap (λ a. if is_done a then nothing else refusal (Acting n) (change_of a)) (first_passes first own t) ∙ quiet-nothing n (first_of own) quiet
+    ap (λ a. when is_done a then nothing else refusal (Acting n) (change_of a)) (first_passes first own t) ∙ quiet-nothing n (first_of own) quiet
     ∙ ap (λ a. refusal (Acting n) (change_of a)) (sym (done-is (first_of first) t)))
-    (λ f. ap (λ a. if is_done a then nothing else refusal (Acting n) (change_of a)) (first_stops first own f) ∙ if-false _ _ _ f)
+    (λ f. ap (λ a. when is_done a then nothing else refusal (Acting n) (change_of a)) (first_stops first own f) ∙ if-false _ _ _ f)
 
 -- a write that passes checks 1 to 4 is answered by its own
 pub own-answer : (s : State) (n : ℕ) (supported : Bool) → is_done (first_of (check1 s ∷ heard_of s n)) ≡ true
@@ -254,7 +254,7 @@ pub record ReadRuling (v : Ruling) : Type 0 where
   pub quiet : change_of v.answer ≡ Unchanged
 
 -- one of two, and each by itself
-either : (b : Bool) {x y : Ruling} → ReadRuling x → ReadRuling y → ReadRuling (if b then x else y)
+either : (b : Bool) {x y : Ruling} → ReadRuling x → ReadRuling y → ReadRuling (when b then x else y)
 either b p q = if-elim ReadRuling b (λ t. p) (λ f. q)
 
 each : (a : Answer) (decision : ReadDecision) → read_number (number_of a) ≡ true → change_of a ≡ Unchanged → ReadRuling (record { answer = a; decision = decision })

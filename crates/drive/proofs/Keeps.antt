@@ -1,12 +1,12 @@
 -- A record whose sets and nexuses are made anew, but for parts that no rule reads: every call has the effect that it had.
 -- Assumes nothing.
-use Prim.Native.Nat.{ℕ, ◌+◌}
+use Prim.Native.Nat.{ℕ}
 use mathlib.Core.Bool.{Bool, not, ◌&&◌}
 use mathlib.Core.List.{List, [], ◌∷◌, ◌++◌, map}
 use mathlib.Core.Path.{◌≡◌, refl, sym, ◌∙◌, ap, ap₂}
 use lib.Dec.{eqb}
-use Rattle.arrays.specs.Base.{if◌then◌else◌}
-use Rattle.arrays.specs.Arrays.{find, count}
+use Rattle.arrays.specs.Base.{when◌then◌else◌}
+use Rattle.arrays.specs.Arrays.{find}
 use Rattle.arrays.proofs.Laws.{fold_from-map}
 use Rattle.answer.specs.Answers.{is_done, change_of}
 use Rattle.answer.specs.declared.Answer.TheVariants.{NotWellFormed, NoPlaceForLocal}
@@ -58,7 +58,8 @@ module _ (f : Set → Set) (g : Nexus → Nexus) (k : Keeps f g) where
   pub releases-kept : (p : ℕ → Set → Bool) → ((i : ℕ) (x : Set) → p i (f x) ≡ p i x) → (l : List Set) → releases p (map f l) ≡ releases p l
   unfolding releases
   releases-kept p e l =
-      fold_from-map f _ _ [] (λ i x r. ap₂ (λ a b. if not (eqb a 0) && b then release i ∷ r else r) (k.seen.scope x) (e i x)) 0 l
+      fold_from-map f (λ i x r. when not (eqb x.scope 0) && p i x then release i ∷ r else r) (λ i x r. when not (eqb x.scope 0) && p i x then release i ∷ r else r) []
+      (λ i x r. ap₂ (λ a b. when not (eqb a 0) && b then release i ∷ r else r) (k.seen.scope x) (e i x)) 0 l
 
   module _ (c : ℕ → ℕ) (s : State) where
     abbrev t : State
@@ -71,7 +72,7 @@ module _ (f : Set → Set) (g : Nexus → Nexus) (k : Keeps f g) where
     -- the nexus's own place
     own-kept : (n : ℕ) → own_place t n ≡ own_place s n
     unfolding own_place
-    own-kept n = ap₂ (λ a b. if eqb a local_scope then b else Nowhere) (scope_kept n) (owned-seen f g k.seen c s n)
+    own-kept n = ap₂ (λ a b. when eqb a local_scope then b else Nowhere) (scope_kept n) (owned-seen f g k.seen c s n)
 
     -- the place of a LOCAL page
     room-kept : (n : ℕ) → room t n ≡ room s n
@@ -141,12 +142,12 @@ module _ (f : Set → Set) (g : Nexus → Nexus) (k : Keeps f g) where
       pub effect-kept : (call : Call) → effect t call ≡ effect s call
       unfolding effect_by answer checks
       effect-kept power_up = refl
-      effect-kept (security_in command) = ap (λ a. if is_done a then marks command.nexus Registered else refusal (Acting command.nexus) (change_of a)) (in_kept command)
+      effect-kept (security_in command) = ap (λ a. when is_done a then marks command.nexus Registered else refusal (Acting command.nexus) (change_of a)) (in_kept command)
       effect-kept (security_out command page) =
-          ap₂ (λ a (p : Checked). if is_done a then takes command.nexus p.page else refusal (Acting command.nexus) (change_of a)) (out-kept command page) (page-kept command.nexus page)
+          ap₂ (λ a (p : Checked). when is_done a then takes command.nexus p.page else refusal (Acting command.nexus) (change_of a)) (out-kept command page) (page-kept command.nexus page)
       effect-kept (write n supported) =
           write-effect t n supported ∙ ap (λ l. refusal (Acting n) (change_of (first_of l))) (first-kept n) ∙ sym (write-effect s n supported)
       effect-kept (read n block) =
           read-effect t n block ∙ ap (λ l. refusal (Acting n) (change_of (first_of l))) (first-kept n) ∙ sym (read-effect s n block)
-      effect-kept unit_reset = ap (λ a. if is_done a then clears else nothing) reset-kept
-      effect-kept (happens event) = ap (λ a. if is_done a then releasing event else nothing) (event-kept event)
+      effect-kept unit_reset = ap (λ a. when is_done a then clears else nothing) reset-kept
+      effect-kept (happens event) = ap (λ a. when is_done a then releasing event else nothing) (event-kept event)

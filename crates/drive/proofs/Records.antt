@@ -4,7 +4,7 @@ use Prim.Native.Nat.{ℕ, ◌<◌}
 use mathlib.Core.Path.{◌≡◌, refl, sym, ap, ◌∙◌}
 use mathlib.Core.Bool.{Bool, true, false, ◌||◌}
 use lib.ListN.{length}
-use Rattle.arrays.specs.Base.{if◌then◌else◌}
+use Rattle.arrays.specs.Base.{when◌then◌else◌}
 use Rattle.arrays.specs.Arrays.{each}
 use Rattle.arrays.proofs.Base.{cases, if-true, if-false}
 use Rattle.answer.specs.Answers.{is_done, change_of}
@@ -13,7 +13,7 @@ use Rattle.answer.specs.declared.Answer.TheVariants.{NotWellFormed}
 use Rattle.answer.specs.declared.Change.{Change}
 use Rattle.answer.specs.declared.Change.TheVariants.{Unchanged, AnotherCleared, VendorCleared, Registered}
 use Rattle.device.specs.Record.{State}
-use Rattle.device.specs.Words.{words, Worded, with_words, keeping, formed}
+use Rattle.device.specs.Words.{Worded, with_words, keeping, formed}
 use Rattle.words.proofs.Words.{formed-is}
 use Rattle.marks.specs.Marks.{changes}
 use Rattle.marks.specs.declared.Actor.TheVariants.{Acting}
@@ -77,7 +77,7 @@ held-is r call some =
     ∙ ap (λ (x : Worded). held_after x (effect_by s call (known_answer s call))) is.1
     ∙ held_after_lem s some (effect_by s call (known_answer s call))
     ∙ ap (λ (a : Answer). with_words (carried_out by_number s (effect_by s call a))) (sym (known-agrees s call is.0))
-    ∙ sym (ap (λ (b : Bool). if b || is_power_up call then with_words (after s call) else r) t))
+    ∙ sym (ap (λ (b : Bool). when b || is_power_up call then with_words (after s call) else r) t))
     (λ f. ap (λ (b : Bool). held_after r (effect_by r.state call (answer_where b r.state call))) f ∙ unformed-held r call f)
 
 -- where the record is well formed, its calls are answered without check 1

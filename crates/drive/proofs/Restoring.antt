@@ -9,7 +9,7 @@ use native.Mathlib.Omega.{arith}
 use borrow.Author.Tests.{eqb-true, eqb-false, eq-eqb, ne_eqb, leb-true, le-leb, ltb-true, ltb-false, not-false}
 use lib.Dec.{eqb, leb, ltb}
 use lib.ListN.{length}
-use Rattle.arrays.specs.Base.{if◌then◌else◌}
+use Rattle.arrays.specs.Base.{when◌then◌else◌}
 use Rattle.arrays.proofs.Base.{cases, clash, both, and_both, if-elim, or-other, or_left_false, or_right_false}
 use Rattle.answer.specs.Answers.{number_of, change_of, is_done}
 use Rattle.answer.specs.declared.Answer.{Answer}
@@ -60,8 +60,8 @@ without-alike s n block =
     let p = selected-seen _ _ unlocks (λ c. c) s n in
     record {
       answered = a;
-      decided = λ i. if is_done (a i) then (v i).decision else Withheld;
-      placed = λ i. if is_done (a i) then p i else 0;
+      decided = λ i. when is_done (a i) then (v i).decision else Withheld;
+      placed = λ i. when is_done (a i) then p i else 0;
     }
 
 -- The lock doesn't stop reads: two records that differ only in locks and saved numbers answer a read alike.
@@ -269,7 +269,7 @@ given_back s n supported w h =
 -- ---- keys, and a block as one number
 
 -- A set holds a main key exactly where a page with its modes has one.
-pub holds-as-asked : (set : Set) → key_length set.fields.encryption set.fields.decryption ≡ (if holds_key set then key_size else 0)
+pub holds-as-asked : (set : Set) → key_length set.fields.encryption set.fields.decryption ≡ (when holds_key set then key_size else 0)
 holds-as-asked set = refl
 
 -- Kind times 256 plus key is that kind and key.

@@ -7,7 +7,7 @@ use mathlib.Core.List.{List, [], ◌∷◌, ◌++◌, map}
 use mathlib.Core.Path.{◌≡◌, ◌∙◌, ap, ap₂}
 use lib.Dec.{eqb, leb}
 use lib.ListN.{length, length-map}
-use Rattle.arrays.specs.Base.{if◌then◌else◌, bit}
+use Rattle.arrays.specs.Base.{when◌then◌else◌, bit}
 use Rattle.arrays.specs.Arrays.{find, each, count}
 use Rattle.arrays.proofs.Laws.{read_same, read-map, fold_from-map}
 use Rattle.answer.specs.declared.Answer.TheVariants.{NotWellFormed}
@@ -38,15 +38,15 @@ module _ (f : Set → Set) (g : Nexus → Nexus) (k : Seen f g) where
 
   -- a search among the sets, where the tests agree
   pub find-kept : (p q : ℕ → Set → Bool) → ((i : ℕ) (x : Set) → p i (f x) ≡ q i x) → (l : List Set) → find At Nowhere p (map f l) ≡ find At Nowhere q l
-  find-kept p q e l = fold_from-map f _ _ Nowhere (λ i x r. ap (λ b. if b then At i else r) (e i x)) 0 l
+  find-kept p q e l = fold_from-map f (λ i x r. when p i x then At i else r) (λ i x r. when q i x then At i else r) Nowhere (λ i x r. ap (λ b. when b then At i else r) (e i x)) 0 l
 
   -- a test of each element, where the tests agree
   each-kept : {A : Type 0} (h : A → A) (p q : ℕ → A → Bool) → ((i : ℕ) (x : A) → p i (h x) ≡ q i x) → (l : List A) → each p (map h l) ≡ each q l
-  each-kept h p q e l = fold_from-map h _ _ true (λ i x r. ap (λ b. b && r) (e i x)) 0 l
+  each-kept h p q e l = fold_from-map h (λ i x r. p i x && r) (λ i x r. q i x && r) true (λ i x r. ap (λ b. b && r) (e i x)) 0 l
 
   -- a count
   count_kept : {A : Type 0} (h : A → A) (p : A → Bool) → ((x : A) → p (h x) ≡ p x) → (l : List A) → count (λ i. p) (map h l) ≡ count (λ i. p) l
-  count_kept h p e l = fold_from-map h _ _ 0 (λ i x r. ap (λ b. bit b + r) (e x)) 0 l
+  count_kept h p e l = fold_from-map h (λ i x r. bit (p x) + r) (λ i x r. bit (p x) + r) 0 (λ i x r. ap (λ b. bit b + r) (e x)) 0 l
 
   module _ (c : ℕ → ℕ) (s : State) where
     abbrev t : State
@@ -68,7 +68,7 @@ module _ (f : Set → Set) (g : Nexus → Nexus) (k : Seen f g) where
     -- the place whose set the nexus uses
     pub selected-seen : (n : ℕ) → selected t n ≡ selected s n
     unfolding selected
-    selected-seen n = ap₂ (λ a b. if eqb a local_scope then or_else b 0 else 0) (nexus-seen (λ x. x.scope) k.nexus_scope n) (owned-seen n)
+    selected-seen n = ap₂ (λ a b. when eqb a local_scope then or_else b 0 else 0) (nexus-seen (λ x. x.scope) k.nexus_scope n) (owned-seen n)
 
     -- what is read of that set
     pub used-seen : {B : Type 0} (r : Set → B) → ((x : Set) → r (f x) ≡ r x) → (n : ℕ) → r (selected_set t n) ≡ r (selected_set s n)

@@ -1,6 +1,6 @@
 -- Document 01, "Answer numbers": "Checks run in number order, and a check applies only to calls that have its argument."
 use Rattle.std.specs.Prelude.{ℕ, Bool, not, ◌&&◌, ◌||◌, List, [], ◌∷◌, ◌++◌, leb, eqb, length}
-use Rattle.arrays.specs.Base.{if◌then◌else◌}
+use Rattle.arrays.specs.Base.{when◌then◌else◌}
 use Rattle.answer.specs.Answers.{is_done}
 use Rattle.answer.specs.declared.Answer.{Answer}
 use Rattle.answer.specs.declared.Answer.TheVariants.{Done, NotWellFormed, NexusAbove, ChangedByAnotherNexus, ChangedByVendorEvent, ProtocolNotSupported, PageNotSupported, NoPlaceForLocal, KeyInstanceChanged, ParametersNotUsable, PlaceAbove}
@@ -24,12 +24,12 @@ use Rattle.places.specs.declared.Event.TheVariants.{Demount, NexusLoss, DeviceLo
 
 -- the answer of a check: its number where it finds a fault, else 0
 abbrev pub answer_if : Bool → Answer → Answer
-answer_if fault answer = if fault then answer else Done
+answer_if fault answer = when fault then answer else Done
 
 -- the first that isn't 0
 abbrev pub first_of : List Answer → Answer
 first_of [] = Done
-first_of (a ∷ more) = if is_done a then first_of more else a
+first_of (a ∷ more) = when is_done a then first_of more else a
 
 abbrev pub check1 : State → Answer
 check1 s = answer_if (not (well_formed s)) NotWellFormed
@@ -136,4 +136,4 @@ known_answer s call = first_of (checks s call)
 
 -- where check 1 was made before: the answer to a call by whether the record is well formed
 unfoldable pub answer_where : (formed : Bool) → State → Call → Answer
-answer_where formed s call = if formed || is_power_up call then known_answer s call else NotWellFormed
+answer_where formed s call = when formed || is_power_up call then known_answer s call else NotWellFormed

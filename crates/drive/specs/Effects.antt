@@ -1,6 +1,6 @@
 -- What a call does, once its answer is known.
 use Rattle.std.specs.Prelude.{ℕ}
-use Rattle.arrays.specs.Base.{if◌then◌else◌}
+use Rattle.arrays.specs.Base.{when◌then◌else◌}
 use Rattle.answer.specs.Answers.{change_of, is_done}
 use Rattle.answer.specs.declared.Answer.{Answer}
 use Rattle.answer.specs.declared.Change.{Change}
@@ -41,7 +41,7 @@ refusal (Acting n) Registered = marks n Registered
 
 -- a call with that answer
 unfoldable pub effect_by : State → Call → Answer → Effect
-effect_by s call a = if is_done a then doing s call else refusal (sender_of call) (change_of a)
+effect_by s call a = when is_done a then doing s call else refusal (sender_of call) (change_of a)
 
 abbrev pub effect : State → Call → Effect
 effect s call = effect_by s call (answer s call)

@@ -1,6 +1,6 @@
 -- Document 02, request 7: calls of a record with words.
 use Rattle.std.specs.Prelude.{◌||◌, List, [], ◌∷◌}
-use Rattle.arrays.specs.Base.{if◌then◌else◌}
+use Rattle.arrays.specs.Base.{when◌then◌else◌}
 use Rattle.arrays.specs.Arrays.{each}
 use Rattle.answer.specs.declared.Answer.{Answer}
 use Rattle.device.specs.Words.{Worded, with_words, keeping, formed}
@@ -18,7 +18,7 @@ answer_of r call = answer_where (formed r) r.state call
 
 -- "After every call each word equals what the scopes say"; a record that is not well formed stays as it is
 abbrev pub after_of : Worded → Call → Worded
-after_of r call = if formed r || is_power_up call then with_words (after r.state call) else r
+after_of r call = when formed r || is_power_up call then with_words (after r.state call) else r
 
 -- after several
 unfoldable pub after_all : Worded → List Call → Worded
@@ -33,6 +33,6 @@ held_after r (marks n change) = keeping r.words (changed_by r.state (marks n cha
 held_after r (takes n page) = told_by (Acting n) r (changed_by r.state (takes n page))
 held_after r clears = keeping r.words (changed_by r.state clears)
 held_after r (releasing event) =
-    if each (spared (released_by event)) r.state.sets then r
+    when each (spared (released_by event)) r.state.sets then r
     else told_by (actor_of event) r (changed_by r.state (releasing event))
 held_after r restarts = with_words (changed_by r.state restarts)

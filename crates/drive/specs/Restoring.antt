@@ -1,7 +1,7 @@
 -- Document 02, request 1: "Reads must be decided too. Add a read decision for restoring hosts". A block is what the cipher engine reports
 -- of it: its kind, and the key that opened it. A ruling is an answer, and what is given of the block.
 use Rattle.std.specs.Prelude.{ℕ, ◌/◌, ◌%◌, Bool, not, ◌&&◌, ◌||◌, leb, eqb}
-use Rattle.arrays.specs.Base.{if◌then◌else◌}
+use Rattle.arrays.specs.Base.{when◌then◌else◌}
 use Rattle.answer.specs.declared.Answer.{Answer}
 use Rattle.answer.specs.declared.Answer.TheVariants.{Done, BlockNotKnown, UnableToDecrypt, NotEncrypted, KeyIncorrect}
 use Rattle.parameters.specs.Codes.{disable, raw, decrypt, needs_key}
@@ -38,28 +38,28 @@ stopped answer = record { answer = answer; decision = Withheld }
 
 -- "Under DISABLE plain passes and others get 15 (7/74/01)."
 abbrev pub under_disable : ℕ → Ruling
-under_disable kind = if eqb kind plain_kind then passes Plain else stopped UnableToDecrypt
+under_disable kind = when eqb kind plain_kind then passes Plain else stopped UnableToDecrypt
 
 -- "RAW passes all, kinds 1 and 2 as raw."
 abbrev pub under_raw : ℕ → Ruling
-under_raw kind = if eqb kind plain_kind then passes Plain else passes Raw
+under_raw kind = when eqb kind plain_kind then passes Plain else passes Raw
 
 -- "DECRYPT gives 16 (7/74/02) for plain; MIXED passes it."
 abbrev pub plain_under : (mode : ℕ) → Ruling
-plain_under mode = if eqb mode decrypt then stopped NotEncrypted else passes Plain
+plain_under mode = when eqb mode decrypt then stopped NotEncrypted else passes Plain
 
 -- "In both, kind 1 is decrypted if a key opened it, else 17 (7/74/03); kind 2 gives 15."
 abbrev pub encrypted_under : Block → Ruling
 encrypted_under block =
-    if eqb block.kind encrypted_kind then if eqb block.key no_key then stopped KeyIncorrect else passes Decrypted
+    when eqb block.kind encrypted_kind then when eqb block.key no_key then stopped KeyIncorrect else passes Decrypted
     else stopped UnableToDecrypt
 
 -- by decryption mode
 unfoldable pub under_mode : (mode : ℕ) → Block → Ruling
 under_mode mode block =
-    if eqb mode disable then under_disable block.kind
-    else if eqb mode raw then under_raw block.kind
-    else if eqb block.kind plain_kind then plain_under mode
+    when eqb mode disable then under_disable block.kind
+    else when eqb mode raw then under_raw block.kind
+    else when eqb block.kind plain_kind then plain_under mode
     else encrypted_under block
 
 -- a set holds a main key exactly where its modes ask a page for one
@@ -76,7 +76,7 @@ not_known set block = not (leb block.kind other_kind) || not (eqb block.key no_k
 
 -- a block read under a set: those "give 14 without sense, after 3 and 4 and before 15"
 abbrev pub restored : Set → Block → Ruling
-restored set block = if not_known set block then stopped BlockNotKnown else under_mode set.fields.decryption block
+restored set block = when not_known set block then stopped BlockNotKnown else under_mode set.fields.decryption block
 
 -- the decision's value in replies; a refused read has none of the others'
 abbrev pub read_value_of : ReadDecision → ℕ

@@ -1,6 +1,6 @@
 -- What is claimed of reads (proofs/Restoring, proofs/RestoringTable).
 use Rattle.std.specs.Prelude.{ℕ, ◌-◌, ◌<◌, ◌≤◌, ◌≡◌, ◌⊎◌, Bool, true, false, ◌&&◌, ◌||◌, List, [], ◌∷◌, ◌++◌, map, leb, replicate}
-use Rattle.arrays.specs.Base.{if◌then◌else◌}
+use Rattle.arrays.specs.Base.{when◌then◌else◌}
 use Rattle.kad.specs.Kad.{no_kads}
 use Rattle.answer.specs.Answers.{number_of, change_of, is_done}
 use Rattle.answer.specs.declared.Answer.{Answer}
@@ -136,7 +136,7 @@ sharing encryption decryption count =
 abbrev pub cell : State → (kind key : ℕ) → ℕ
 cell s kind key =
     let a = answer s (read 3 (block kind key)) in
-    if is_done a then read_value_of (read_decision s 3 (block kind key) a) else number_of a
+    when is_done a then read_value_of (read_decision s 3 (block kind key) a) else number_of a
 
 -- under a mode, one kind: with a key that the set has, and with none
 pub record Kind : Type 0 where

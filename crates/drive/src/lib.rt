@@ -1,8 +1,10 @@
 // The calls of document 01, as far as they go by one nexus, one set, one page or one event: the checks, and what is decided.
+#![tactic(auto)]
+
 use answer::Answer;
 
 // What a security command says of itself.
-#[derive(Drop)]
+#[derive(Clone, Copy)]
 pub struct Command {
     pub nexus: u8,
     pub protocol: u8,
@@ -10,7 +12,7 @@ pub struct Command {
 }
 
 // What becomes of a block that is written.
-#[derive(Drop)]
+#[derive(Clone, Copy)]
 pub enum Decision {
     Refused,
     Clear,
@@ -29,14 +31,14 @@ pub const OTHER_KIND: u8 = 2;
 pub const NO_KEY: u8 = 255;
 
 // What the cipher engine reports of a block that is read.
-#[derive(Drop)]
+#[derive(Clone, Copy)]
 pub struct Block {
     pub kind: u8,
     pub key: u8,
 }
 
 // What becomes of it.
-#[derive(Drop)]
+#[derive(Clone, Copy)]
 pub enum ReadDecision {
     Withheld,
     Plain,
@@ -45,7 +47,7 @@ pub enum ReadDecision {
 }
 
 // How a read is answered, and what it gives: Withheld where it is refused.
-#[derive(Drop)]
+#[derive(Clone, Copy)]
 pub struct Ruling {
     pub answer: Answer,
     pub decision: ReadDecision,

@@ -1,6 +1,6 @@
 -- What each public call of this model gives back. a is the call's answer; "A refused answer carries its number and sense only."
 use Rattle.std.specs.Prelude.{ℕ, Bool}
-use Rattle.arrays.specs.Base.{if◌then◌else◌}
+use Rattle.arrays.specs.Base.{when◌then◌else◌}
 use Rattle.answer.specs.Answers.{sense_of, change_of}
 use Rattle.answer.specs.declared.Answer.{Answer}
 use Rattle.answer.specs.declared.Answer.TheVariants.{Done, NoPlaceForLocal}
@@ -132,4 +132,4 @@ unchanged r a = outcome_with r a
 
 -- a page that passed its check: "else answer 10", else it is taken
 abbrev pub page_outcome : Worded → ℕ → Page → Outcome
-page_outcome r n page = if no_place r.state n page then refused_call r n NoPlaceForLocal else outcome_with (held_after r (takes n page)) Done
+page_outcome r n page = when no_place r.state n page then refused_call r n NoPlaceForLocal else outcome_with (held_after r (takes n page)) Done

@@ -1,5 +1,7 @@
 // The drive of this model: every call of document 01, the read and the question of document 02. The record goes in by value and comes back
 // beside the answer. Each call has a part after check 1, which a caller may use whose record is known to be well formed.
+#![tactic(auto)]
+
 ghost use Rattle.std.specs.Prelude.{◌≡◌};
 ghost use Rattle.wire.specs.Buffers.{Shown};
 ghost use Rattle.device_16.specs.Model.{state, worded, record_of};
@@ -22,7 +24,7 @@ use places::Event;
 use sizes_16::{NEXUSES, PLACES};
 
 // The record after the call stands first in each outcome: behind a byte and its padding the compiler copies it twice more.
-#[derive(Drop)]
+#[derive(Clone, Copy)]
 pub struct Outcome {
     pub after: Record,
     pub answer: Answer,
@@ -30,7 +32,7 @@ pub struct Outcome {
 }
 
 // length is the response page's full length, 0 where refused.
-#[derive(Drop)]
+#[derive(Clone, Copy)]
 pub struct InOutcome {
     pub after: Record,
     pub answer: Answer,
@@ -39,7 +41,7 @@ pub struct InOutcome {
 }
 
 // place and index are those of the set in use, 0 where refused.
-#[derive(Drop)]
+#[derive(Clone, Copy)]
 pub struct WriteOutcome {
     pub after: Record,
     pub answer: Answer,
@@ -50,7 +52,7 @@ pub struct WriteOutcome {
 }
 
 // place is that of the set in use, 0 where refused.
-#[derive(Drop)]
+#[derive(Clone, Copy)]
 pub struct ReadOutcome {
     pub after: Record,
     pub answer: Answer,
@@ -60,7 +62,7 @@ pub struct ReadOutcome {
 }
 
 // The word of the hosts that a set serves, 0 where refused.
-#[derive(Drop)]
+#[derive(Clone, Copy)]
 pub struct Served {
     pub answer: Answer,
     pub sense: Sense,

@@ -1,4 +1,6 @@
 // The calls of document 01, as far as they go by one nexus, one set, one page or one event: the checks, and what is decided.
+#![tactic(auto)]
+
 ghost use Rattle.std.specs.Prelude.{◌≡◌};
 ghost use Rattle.drive.specs.Checks.{first_of, check2, check13, heard, commanded, permitted, event_check};
 ghost use Rattle.drive.specs.Restoring.{block_of, passes, stopped, under_disable, under_raw, plain_under, encrypted_under, under_mode, not_known, restored, read_value_of};

@@ -7,7 +7,7 @@ use mathlib.Core.List.{List, [], ◌∷◌}
 use native.Mathlib.Omega.{arith}
 use lib.Dec.{eqb}
 use lib.ListN.{length, length-append}
-use Rattle.arrays.specs.Base.{if◌then◌else◌}
+use Rattle.arrays.specs.Base.{when◌then◌else◌}
 use Rattle.arrays.specs.Arrays.{fold_from}
 use Rattle.arrays.proofs.Base.{if-elim}
 use Rattle.parameters.specs.Codes.{local_scope, all_scope}
@@ -28,7 +28,7 @@ use Rattle.drive.proofs.Effects.{effect-size}
 use Rattle.history.specs.History.{drew_of, drew_from, drew}
 
 -- at most one release for each place
-releases-few : (picked : ℕ → Set → Bool) (k : ℕ) (sets : List Set) → length (fold_from (λ place set rest. if due picked place set then release place ∷ rest else rest) [] k sets) ≤ length sets
+releases-few : (picked : ℕ → Set → Bool) (k : ℕ) (sets : List Set) → length (fold_from (λ place set rest. when due picked place set then release place ∷ rest else rest) [] k sets) ≤ length sets
 releases-few picked k [] = omega arith
 releases-few picked k (x ∷ sets) =
     let h = releases-few picked (suc k) sets in

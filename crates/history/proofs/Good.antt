@@ -8,7 +8,7 @@ use lib.ListN.{length, get_or, replicate}
 use lib.Seq.{get_or-set_same}
 use lib.Dec.{eqb}
 use borrow.Author.Tests.{eqb-true, eqb-false, not-true}
-use Rattle.arrays.specs.Base.{if◌then◌else◌}
+use Rattle.arrays.specs.Base.{when◌then◌else◌}
 use Rattle.arrays.proofs.Base.{cases, clash, and_left, and_right, if-elim, if-true}
 use Rattle.arrays.proofs.Laws.{find-by}
 use Rattle.answer.specs.declared.Change.TheVariants.{Registered}
@@ -67,7 +67,7 @@ module _ (n : ℕ) (page : Page) (e : State) (b : Base n e) where
 
   -- the place that a nexus with its sets uses
   uses : Nexus → ℕ
-  uses x = if eqb x.scope local_scope then or_else (owned_place e.sets n) 0 else 0
+  uses x = when eqb x.scope local_scope then or_else (owned_place e.sets n) 0 else 0
 
   -- saving changes no place
   selected-is : selected (sender_after e n page) n ≡ selected (at_nexus n (with_scope page.scope) e) n

@@ -6,7 +6,7 @@ use mathlib.Core.List.{List, [], ◌∷◌, map}
 use mathlib.Core.Path.{◌≡◌, refl, sym, ◌∙◌, ap, ap₂, subst}
 use lib.Dec.{eqb}
 use lib.ListN.{length, set, length-map}
-use Rattle.arrays.specs.Base.{if◌then◌else◌}
+use Rattle.arrays.specs.Base.{when◌then◌else◌}
 use Rattle.arrays.specs.Arrays.{map_from}
 use Rattle.arrays.proofs.Base.{if-map}
 use Rattle.arrays.proofs.Laws.{map-set, map-map_from, map-over, read_same}
@@ -15,7 +15,7 @@ use Rattle.answer.specs.declared.Change.TheVariants.{Registered}
 use Rattle.page.specs.declared.Page.{Page}
 use Rattle.parameters.specs.Codes.{public_scope}
 use Rattle.device.specs.Record.{State, set_at, nexus_at, no_set, new_nexus, no_marks}
-use Rattle.device.specs.Updates.{registered, with_marks, with_scope, numbered, with_supplemental, at_nexus, mapped}
+use Rattle.device.specs.Updates.{with_marks, with_scope, numbered, with_supplemental, at_nexus, mapped}
 use Rattle.device.specs.Selecting.{selected, selected_set}
 use Rattle.device.specs.WellFormed.{well_formed}
 use Rattle.device.specs.declared.Set.{Set}
@@ -78,7 +78,7 @@ module _ (c : ℕ → ℕ) (f : Set → Set) (g : Nexus → Nexus) (k : Keeps f 
   same-marks x y e = sym (k.seen.marks x) ∙ ap (λ z. z.marks) e ∙ k.seen.marks y
 
   -- where one of two is picked
-  if-alike : (b : Bool) (s t u v : State) → Alike s u → Alike t v → Alike (if b then s else t) (if b then u else v)
+  if-alike : (b : Bool) (s t u v : State) → Alike s u → Alike t v → Alike (when b then s else t) (when b then u else v)
   if-alike true s t u v a b = a
   if-alike false s t u v a b = b
 
@@ -123,13 +123,13 @@ module _ (c : ℕ → ℕ) (f : Set → Set) (g : Nexus → Nexus) (k : Keeps f 
         ∙ sym (map-set f t.sets x.place (numbered (drawn t.counter) x.contents));
     nexuses =
         each-alike (freed s x.place) (freed t x.place)
-        (λ i y. free s i y ∙ ap (λ p. if eqb p x.place then with_scope public_scope (g y) else g y) (same-selected i s t a))
+        (λ i y. free s i y ∙ ap (λ p. when eqb p x.place then with_scope public_scope (g y) else g y) (same-selected i s t a))
         (λ i y. free t i y)
         s.nexuses t.nexuses a.nexuses;
   }
     where
       free : (s : State) (i : ℕ) (y : Nexus) → g (freed s x.place i y) ≡ freed s x.place i (g y)
-      free s i y = if-map g (eqb (selected s i) x.place) _ _ ∙ ap (λ (z : Nexus). if eqb (selected s i) x.place then z else g y) (m.scopes public_scope y)
+      free s i y = if-map g (eqb (selected s i) x.place) _ _ ∙ ap (λ (z : Nexus). when eqb (selected s i) x.place then z else g y) (m.scopes public_scope y)
 
   -- several
   acts-alike : (l : List Action) (s t : State) → Alike s t → Alike (acts s l) (acts t l)

@@ -9,7 +9,7 @@ use native.Mathlib.Omega.{arith}
 use lib.Dec.{eqb}
 use lib.ListN.{get_or}
 use borrow.Author.Tests.{eqb-true, ne_eqb}
-use Rattle.arrays.specs.Base.{if◌then◌else◌}
+use Rattle.arrays.specs.Base.{when◌then◌else◌}
 use Rattle.arrays.specs.Arrays.{fold_from, find}
 use Rattle.arrays.proofs.Base.{cases, clash, and_left, if-elim, if-true, if-false, or_left_false}
 use Rattle.arrays.proofs.Laws.{find-by}
@@ -42,7 +42,7 @@ supplemental-no-action = supplemental-actions
 
 module _ (picked : ℕ → Set → Bool) (place : ℕ) where
   -- from any place on
-  missed-from : (l : List Set) (k : ℕ) → ((i : ℕ) → place ≡ k + i → empty (get_or l i no_set) ≡ true) → hits place (fold_from (λ p set rest. if used set && picked p set then release p ∷ rest else rest) [] k l) ≡ false
+  missed-from : (l : List Set) (k : ℕ) → ((i : ℕ) → place ≡ k + i → empty (get_or l i no_set) ≡ true) → hits place (fold_from (λ p set rest. when used set && picked p set then release p ∷ rest else rest) [] k l) ≡ false
   unfolding hits
   missed-from [] k h = refl
   missed-from (x ∷ l) k h =

@@ -8,7 +8,7 @@ use native.Mathlib.Omega.{arith}
 use lib.Dec.{eqb, ltb}
 use lib.ListN.{length, get_or, replicate}
 use borrow.Author.Tests.{eqb-true, eq-eqb, ne_eqb, lt-ltb}
-use Rattle.arrays.specs.Base.{if◌then◌else◌}
+use Rattle.arrays.specs.Base.{when◌then◌else◌}
 use Rattle.arrays.proofs.Base.{cases, clash, and_left, if-true, if-false, or_left_false, or_right_false}
 use Rattle.arrays.proofs.Laws.{get_d_set, read_same}
 use Rattle.device.specs.Record.{State, power_on, set_at, no_set, empty_set}
@@ -44,7 +44,7 @@ module _ (s : State) (a : Action) where
   on place = eqb place a.place && ltb a.place (length s.sets)
 
   -- the set of a place after the action
-  act-set : (place : ℕ) → set_at (act s a) place ≡ if on place then numbered (drawn s.counter) a.contents else set_at s place
+  act-set : (place : ℕ) → set_at (act s a) place ≡ when on place then numbered (drawn s.counter) a.contents else set_at s place
   unfolding act
   act-set place = get_d_set s.sets a.place place (numbered (drawn s.counter) a.contents) no_set
 

@@ -8,7 +8,7 @@ use lib.ListN.{length, get_or}
 use lib.Seq.{map-set_same, get_or-set_other}
 use lib.Dec.{eqb}
 use borrow.Author.Tests.{eqb-false}
-use Rattle.arrays.specs.Base.{if◌then◌else◌}
+use Rattle.arrays.specs.Base.{when◌then◌else◌}
 use Rattle.arrays.proofs.Base.{cases, clash, if-elim}
 use Rattle.arrays.proofs.Laws.{read_same, read-map, read-map_from, same_length, find-same}
 use Rattle.answer.specs.declared.Change.{Change}
@@ -59,7 +59,7 @@ nexus-unseen n s l e = λ i. record {
   number = λ place. place_number s place;
   lock = (e i).lock;
   saved = (e i).saved;
-  selected = if eqb (e i).scope local_scope then or_else (owned_place s.sets n) 0 else 0;
+  selected = when eqb (e i).scope local_scope then or_else (owned_place s.sets n) 0 else 0;
 }
 
 -- so may all, where that much of each stays
@@ -96,7 +96,7 @@ supplemented-unseen n m page s =
       number = λ place. number place i;
       lock = (nexus_at s n).lock;
       saved = (nexus_at s n).saved;
-      selected = if eqb (nexus_at s n).scope local_scope then or_else (own i) 0 else 0;
+      selected = when eqb (nexus_at s n).scope local_scope then or_else (own i) 0 else 0;
     }
 
 -- nor another sender after its page

@@ -8,13 +8,12 @@ use native.Mathlib.Nat.{zero-add, suc-add, add-suc, add-zero}
 use native.Mathlib.Omega.{arith}
 use lib.ListN.{length}
 use borrow.Author.Tests.{not-true}
-use Rattle.arrays.specs.Base.{if◌then◌else◌}
+use Rattle.arrays.specs.Base.{when◌then◌else◌}
 use Rattle.arrays.proofs.Base.{cases, clash, and_left, and_right, if-true, if-false}
 use Rattle.device.specs.declared.Found.{Found}
 use Rattle.device.specs.declared.Found.TheVariants.{At, Nowhere}
 use Rattle.drive.specs.Calls.{Call}
 use Rattle.device.specs.Record.{State}
-use Rattle.drive.specs.Effects.{effect}
 use Rattle.drive.specs.After.{after}
 use Rattle.drive.specs.Runs.{run_from}
 use Rattle.history.specs.History.{Did, did, ran_from, accepts, hits, silent, touched, Latest, place_left, LatestPage, first_touched, First, Trail, earlier, is_found, followed, trail_over}
@@ -94,7 +93,7 @@ trail-append n [] b i t = rw add-zero refl
 trail-append n (d ∷ a) b i t = rw (add-suc i (length a), ← suc-add i (length a)) (trail-append n a b (suc i) (followed n i d t))
 
 -- the first of three
-earlier-if : (f : Found) (b : Bool) (i : ℕ) (r : Found) → earlier (earlier f (if b then At i else Nowhere)) r ≡ earlier f (if b then At i else r)
+earlier-if : (f : Found) (b : Bool) (i : ℕ) (r : Found) → earlier (earlier f (when b then At i else Nowhere)) r ≡ earlier f (when b then At i else r)
 earlier-if (At j) b i r = refl
 earlier-if Nowhere true i r = refl
 earlier-if Nowhere false i r = refl
@@ -110,7 +109,7 @@ unfolding trail_over silent first_touched followed
 trail-silent n [] i t h = ap (λ f. record { left = t.left; first = f }) (sym (earlier-nowhere t.first))
 trail-silent n (d ∷ l) i t h =
     let other : accepts n d.effect ≡ false = not-true _ (and_left _ (silent n l) h) in
-    let next : Trail = record { left = t.left; first = earlier t.first (if hits t.left d.actions then At i else Nowhere) } in
+    let next : Trail = record { left = t.left; first = earlier t.first (when hits t.left d.actions then At i else Nowhere) } in
     ap (trail_over n (suc i) l) (if-false (accepts n d.effect) _ _ other)
     ∙ trail-silent n l (suc i) next (and_right (not (accepts n d.effect)) _ h)
     ∙ ap (λ f. record { left = t.left; first = f }) (earlier-if t.first (hits t.left d.actions) i (first_touched t.left (suc i) l))

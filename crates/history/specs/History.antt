@@ -1,6 +1,6 @@
 -- Every sequence of calls since power-on: what each call did, read from the record and read without a look at any instance number.
 use Rattle.std.specs.Prelude.{ℕ, suc, ◌+◌, ◌≤◌, ◌<◌, ◌^◌, Bool, true, false, not, ◌&&◌, ◌||◌, List, [], ◌∷◌, ◌++◌, map, ◌≡◌, eqb, length}
-use Rattle.arrays.specs.Base.{if◌then◌else◌}
+use Rattle.arrays.specs.Base.{when◌then◌else◌}
 use Rattle.answer.specs.Answers.{number_of, is_done}
 use Rattle.answer.specs.declared.Answer.TheVariants.{Done}
 use Rattle.parameters.specs.declared.Fields.{Fields}
@@ -194,7 +194,7 @@ drew nexuses places calls = drew_from 0 (power_on nexuses places) calls
 -- the position, counted on from i, of the first call that acted on the place
 unfoldable pub first_touched : (place i : ℕ) → List Did → Found
 first_touched place i [] = Nowhere
-first_touched place i (d ∷ later) = if hits place d.actions then At i else first_touched place (suc i) later
+first_touched place i (d ∷ later) = when hits place d.actions then At i else first_touched place (suc i) later
 
 -- what it is to be that call: it acted on the place, and none before it did
 pub record First (place : ℕ) (l : List Did) (position : ℕ) : Type 0 where
@@ -225,8 +225,8 @@ is_found Nowhere = false
 -- a call, at position i: such a page sets the reading anew, any other call is noted if it is the first to act on the place
 unfoldable pub followed : (n i : ℕ) → Did → Trail → Trail
 followed n i d t =
-    if accepts n d.effect then record { left = d.uses n; first = Nowhere }
-    else record { left = t.left; first = earlier t.first (if hits t.left d.actions then At i else Nowhere) }
+    when accepts n d.effect then record { left = d.uses n; first = Nowhere }
+    else record { left = t.left; first = earlier t.first (when hits t.left d.actions then At i else Nowhere) }
 
 -- the same over a history
 unfoldable pub trail_over : (n i : ℕ) → List Did → Trail → Trail

@@ -8,7 +8,7 @@ use native.Mathlib.Omega.{arith}
 use borrow.Author.Tests.{ltb-true, ltb-false}
 use lib.Dec.{ltb, eqb}
 use lib.ListN.{drop}
-use Rattle.arrays.specs.Base.{if◌then◌else◌}
+use Rattle.arrays.specs.Base.{when◌then◌else◌}
 use Rattle.arrays.proofs.Base.{if-elim}
 use Rattle.wire.specs.Rules.{breach}
 use Rattle.kad.specs.Kad.{with_data}
@@ -22,7 +22,7 @@ use Rattle.kad.proofs.Accepted.{formed}
 -- the most bytes that are still good after the last type seen
 abbrev ahead : Seen → ℕ
 ahead Nothing = 55
-ahead (Last kind) = if eqb kind 0 then 19 else 3
+ahead (Last kind) = when eqb kind 0 then 19 else 3
 
 -- a fault in the first descriptor
 head_few : (seen : Seen) → 3 ≤ ahead seen

@@ -1,6 +1,6 @@
 -- Key-associated data: U-KAD of 0 to 32 bytes, A-KAD of 0 to 12.
 use Rattle.std.specs.Prelude.{ℕ, ◌≡◌, Bool, ◌&&◌, List, leb, eqb, length, drop, replicate}
-use Rattle.arrays.specs.Base.{if◌then◌else◌}
+use Rattle.arrays.specs.Base.{when◌then◌else◌}
 use Rattle.wire.specs.Buffers.{padded, all_zero}
 use Rattle.kad.specs.declared.UKad.{UKad}
 use Rattle.kad.specs.declared.AKad.{AKad}
@@ -29,7 +29,7 @@ no_kads = record { ukad = record { length = 0; bytes = replicate u_most 0 }; aka
 -- with the data of one type put in: type 0 is U-KAD, type 1 A-KAD
 abbrev pub with_data : Kads → ℕ → List ℕ → Kads
 with_data k kind d =
-    if eqb kind 0 then record { ukad = u_kad d; akad = k.akad } else record { ukad = k.ukad; akad = a_kad d }
+    when eqb kind 0 then record { ukad = u_kad d; akad = k.akad } else record { ukad = k.ukad; akad = a_kad d }
 
 -- the lengths are in range
 abbrev pub lengths_good : Kads → Bool

@@ -2,7 +2,7 @@
 -- Types rise, so each stands at most once; the last ends with the page. Each step reads one descriptor and hands the rest of the list on."
 -- s is a list of descriptors: the part of a page that starts after what precedes them.
 use Rattle.std.specs.Prelude.{ℕ, zero, suc, ◌+◌, Bool, true, not, List, [], ◌∷◌, length, take, drop, ltb, leb, eqb}
-use Rattle.arrays.specs.Base.{if◌then◌else◌}
+use Rattle.arrays.specs.Base.{when◌then◌else◌}
 use Rattle.wire.specs.Numbers.{byte_at, word_at}
 use Rattle.wire.specs.Rules.{Rule, rule, breach}
 use Rattle.kad.specs.Kad.{u_most, a_most, no_kads, with_data}
@@ -31,7 +31,7 @@ next_of s = descriptor_head + length_of s
 
 -- the most bytes that a type has
 abbrev pub most : ℕ → ℕ
-most kind = if eqb kind 0 then u_most else a_most
+most kind = when eqb kind 0 then u_most else a_most
 
 -- types rise: the type is above the last one seen
 abbrev pub rising : Seen → ℕ → Bool
@@ -56,7 +56,7 @@ abbrev pub one_step : (List ℕ → Seen → Kads → Listed) → List ℕ → S
 one_step f s seen k =
     let fault = breach (descriptor_rules s seen) descriptor_head in
     let rest = f (drop (next_of s) s) (Last (type_of s)) (with_data k (type_of s) (data_of s)) in
-    if ltb fault descriptor_head then record { good = fault; kads = k } else record { good = next_of s + rest.good; kads = rest.kads }
+    when ltb fault descriptor_head then record { good = fault; kads = k } else record { good = next_of s + rest.good; kads = rest.kads }
 
 -- what a list of at most n bytes gives: how many bytes stand before its first fault, all of them where there is none, and the data
 unfoldable pub listed : ℕ → List ℕ → Seen → Kads → Listed

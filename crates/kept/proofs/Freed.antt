@@ -6,7 +6,7 @@ use mathlib.Core.Bool.{Bool, true, or-false}
 use native.Mathlib.Omega.{arith}
 use borrow.Author.Tests.{eqb-true, eqb-false, eq-eqb}
 use lib.Dec.{eqb}
-use Rattle.arrays.specs.Base.{if◌then◌else◌}
+use Rattle.arrays.specs.Base.{when◌then◌else◌}
 use Rattle.arrays.proofs.Base.{cases, both, if-map, if-same, same_truth}
 use Rattle.parameters.specs.Codes.{public_scope, local_scope, all_scope}
 use Rattle.device.specs.Record.{State, set_at, nexus_at}
@@ -39,7 +39,7 @@ module _ (s : State) (w : well_formed s ≡ true) (place n : ℕ) where
       (λ t. eq-eqb _ _ (z ∙ sym (eqb-true place 0 t)))
 
   abbrev choice : Bool → ℕ
-  choice b = if b then public_scope else (nexus_at s n).scope
+  choice b = when b then public_scope else (nexus_at s n).scope
 
   local : (nexus_at s n).scope ≡ local_scope → choice (eqb (selected s n) place) ≡ choice (loses s place n)
   local e =
@@ -55,7 +55,7 @@ module _ (s : State) (w : well_formed s ≡ true) (place n : ℕ) where
   public e = rw e (if-same (eqb (selected s n) place) public_scope)
 
   -- in a well-formed record an action on a place makes PUBLIC exactly the nexuses that are LOCAL there, or ALL for place 0
-  pub freed-as-worded : (freed s place n (nexus_at s n)).scope ≡ if loses s place n then public_scope else (nexus_at s n).scope
+  pub freed-as-worded : (freed s place n (nexus_at s n)).scope ≡ when loses s place n then public_scope else (nexus_at s n).scope
   freed-as-worded =
       if-map (λ (x : Nexus). x.scope) (eqb (selected s n) place) (with_scope public_scope (nexus_at s n)) (nexus_at s n)
       ∙ cases (eqb (nexus_at s n).scope local_scope)

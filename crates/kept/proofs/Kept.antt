@@ -10,7 +10,7 @@ use lib.Dec.{eqb, leb}
 use lib.ListN.{length, get_or, set, drop, length-set}
 use lib.Seq.{sets, drop-drop}
 use Rattle.arrays.specs.Base.{bit}
-use Rattle.arrays.specs.Arrays.{map_from, count, find}
+use Rattle.arrays.specs.Arrays.{map_from, find}
 use Rattle.arrays.proofs.Base.{cases, clash, not-zero, and_left, and_right, if-elim, same_truth}
 use Rattle.arrays.proofs.Laws.{find-by, length-map_from, get_d-set-by, drop-sets}
 use Rattle.wire.specs.Buffers.{all_zero}

@@ -8,7 +8,7 @@ use borrow.Author.Tests.{eqb-true, eq-eqb, ltb-true, ltb-false}
 use lib.Dec.{eqb, ltb}
 use lib.ListN.{length, set, length-set}
 use lib.Seq.{set_out}
-use Rattle.arrays.specs.Base.{if◌then◌else◌, bit}
+use Rattle.arrays.specs.Base.{when◌then◌else◌, bit}
 use Rattle.arrays.specs.Arrays.{count}
 use Rattle.arrays.proofs.Base.{cases, clash, both, and_left, and_right}
 use Rattle.arrays.proofs.Laws.{get_d-set-by}
@@ -116,13 +116,13 @@ module _ (s : State) (a : Action) where
 
   -- a nexus that uses another place stays as it is
   pub stays : (i : ℕ) → eqb (selected s i) a.place ≡ false → nexus_at (act s a) i ≡ nexus_at s i
-  stays i e = act-nexus s a i ∙ ap (λ (b : Bool). if b then with_scope public_scope (nexus_at s i) else nexus_at s i) e
+  stays i e = act-nexus s a i ∙ ap (λ (b : Bool). when b then with_scope public_scope (nexus_at s i) else nexus_at s i) e
 
   -- one that is not PUBLIC afterwards uses another place
   pub elsewhere : (i : ℕ) → 0 < (nexus_at (act s a) i).scope → eqb (selected s i) a.place ≡ false
   elsewhere i h =
       cases (eqb (selected s i) a.place)
-      (λ e. let z : (nexus_at (act s a) i).scope ≡ 0 = ap (λ (x : Nexus). x.scope) (act-nexus s a i ∙ ap (λ (b : Bool). if b then with_scope public_scope (nexus_at s i) else nexus_at s i) e) in
+      (λ e. let z : (nexus_at (act s a) i).scope ≡ 0 = ap (λ (x : Nexus). x.scope) (act-nexus s a i ∙ ap (λ (b : Bool). when b then with_scope public_scope (nexus_at s i) else nexus_at s i) e) in
       absurd (omega (arith, z)))
       (λ e. e)
 

@@ -1,6 +1,6 @@
 -- Who is told, from parts of the record and from the words.
 use Rattle.std.specs.Prelude.{ℕ, ◌^◌, Bool, not, ◌&&◌, ltb, length}
-use Rattle.arrays.specs.Base.{if◌then◌else◌}
+use Rattle.arrays.specs.Base.{when◌then◌else◌}
 use Rattle.arrays.specs.Words.{bit_of}
 use Rattle.device.specs.Record.{State}
 use Rattle.device.specs.Words.{words, Worded}
@@ -17,7 +17,7 @@ told_in was n actor word = was.marks.registered && not (is_actor actor n) && bit
 -- the bit of the acting nexus, where there are that many
 abbrev pub actor_bit : ℕ → Actor → ℕ
 actor_bit nexuses Nobody = 0
-actor_bit nexuses (Acting m) = if ltb m nexuses then 2 ^ m else 0
+actor_bit nexuses (Acting m) = when ltb m nexuses then 2 ^ m else 0
 
 -- "Unit attentions are then given from the words": r is the record before, with the words that it holds, and t the record after, which gets
 -- its words anew

@@ -1,4 +1,6 @@
 // Marks in the record of this model: a nexus's marks changed, nexuses told, the logical unit reset.
+#![tactic(auto)]
+
 ghost use Rattle.std.specs.Prelude.{◌≡◌, map, get_or};
 ghost use Rattle.arrays.specs.Arrays.{map_from};
 ghost use Rattle.device.specs.Record.{new_nexus};

@@ -1,4 +1,6 @@
 // A nexus's registered mark and its pending flags: what an answer changes of them, who is told, and the logical unit reset.
+#![tactic(auto)]
+
 ghost use Rattle.std.specs.Prelude.{◌≡◌, not, ◌&&◌, map};
 ghost use Rattle.device.specs.Updates.{registered, with_another, with_vendor};
 ghost use Rattle.marks.specs.Marks.{remarked, changed, keeps_marks, is_actor, alerted};

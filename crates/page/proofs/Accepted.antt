@@ -9,7 +9,7 @@ use native.Mathlib.Omega.{arith}
 use borrow.Author.Tests.{eqb-true, eqb-false, leb-true, leb-false, ltb-false, not-true}
 use lib.Dec.{ltb, leb, eqb}
 use lib.ListN.{length, take, drop}
-use Rattle.arrays.specs.Base.{if◌then◌else◌}
+use Rattle.arrays.specs.Base.{when◌then◌else◌}
 use Rattle.arrays.proofs.Base.{cases, and_left, and_right, if-elim}
 use Rattle.wire.specs.Rules.{length_wrong, breach}
 use Rattle.wire.proofs.Stores.{length-padded}
@@ -111,7 +111,7 @@ list-good encryption rest =
 
 -- a refusal isn't done
 past-refusal : (P : Checked → Type 0) (b : Bool) (answer : Answer) (y : Checked) → (number_of answer ≡ 0 → ⊥)
-    → (b ≡ false → y.answer ≡ Done → P y) → (if b then refused_page answer else y).answer ≡ Done → P (if b then refused_page answer else y)
+    → (b ≡ false → y.answer ≡ Done → P y) → (when b then refused_page answer else y).answer ≡ Done → P (when b then refused_page answer else y)
 past-refusal P true answer y n f e = absurd (n (ap number_of e))
 past-refusal P false answer y n f e = f refl e
 

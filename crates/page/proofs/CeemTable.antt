@@ -4,7 +4,7 @@ use mathlib.Core.Path.{◌≡◌, refl}
 use mathlib.Core.Bool.{Bool, true, false}
 use mathlib.Core.List.{List, [], ◌∷◌, ◌++◌, map}
 use lib.ListN.{take, replicate}
-use Rattle.arrays.specs.Base.{if◌then◌else◌}
+use Rattle.arrays.specs.Base.{when◌then◌else◌}
 use Rattle.wire.specs.Buffers.{padded}
 use Rattle.answer.specs.declared.Answer.TheVariants.{FieldWrong}
 use Rattle.kad.specs.Kad.{no_kads}
@@ -23,7 +23,7 @@ pair scope ceem encryption decryption =
 abbrev paired : ℕ → ℕ → ℕ → Bool → ℕ → Row
 paired scope encryption ceem ok decryption =
     first (pair scope ceem encryption decryption)
-    (if ok then set_with scope false ceem false encryption decryption (padded 32 (take (key_length encryption decryption) key)) no_kads else refused_page (FieldWrong 5))
+    (when ok then set_with scope false ceem false encryption decryption (padded 32 (take (key_length encryption decryption) key)) no_kads else refused_page (FieldWrong 5))
 
 -- each CEEM with DISABLE, RAW, DECRYPT and MIXED: is it taken?
 abbrev with_each : ℕ → ℕ → ℕ → Bool → Bool → Bool → Bool → List Row

@@ -10,7 +10,7 @@ use native.Mathlib.Omega.{arith}
 use borrow.Author.Tests.{ltb-true, ltb-false, leb-true, le-leb}
 use lib.Dec.{ltb, leb}
 use lib.ListN.{length, drop, length-drop}
-use Rattle.arrays.specs.Base.{if◌then◌else◌}
+use Rattle.arrays.specs.Base.{when◌then◌else◌}
 use Rattle.arrays.proofs.Base.{cases, clash, if-elim}
 use Rattle.wire.specs.Rules.{length_wrong, Rule, rule, breach}
 use Rattle.wire.proofs.Rules.{AllHold, Under, kept, none, low, high, Sorted, sorted-from, sorted-append, hold-append, under-append, under_more, zeros-sorted}
@@ -39,11 +39,11 @@ use Rattle.page.proofs.Parts.{open-under, mode-under, match-under, plain-under, 
 unfoldable pub after_rules : List ℕ → List Rule
 after_rules p =
     let rest = drop (key_end p) p in
-    if encrypts (encryption_of p) then list_rules (length rest) (key_end p) rest Nothing else rule (key_end p) (leb (length p) (key_end p)) ∷ []
+    when encrypts (encryption_of p) then list_rules (length rest) (key_end p) rest Nothing else rule (key_end p) (leb (length p) (key_end p)) ∷ []
 
 -- past the page code and the scope
 unfoldable pub inner_rules : List ℕ → ℕ → ℕ → List Rule
-inner_rules p scope mode = if is_public p then [] else if sdk_of p then supplemental_rules p scope mode else set_rules p ++ after_rules p
+inner_rules p scope mode = when is_public p then [] else when sdk_of p then supplemental_rules p scope mode else set_rules p ++ after_rules p
 
 -- all of them
 abbrev pub page_rules : List ℕ → ℕ → ℕ → List Rule

@@ -1,7 +1,7 @@
 -- Document 01, "The Set Data Encryption page (0010h)": the whole check. Answer 8 carries the faulty byte (document 02, request 6).
 -- Besides the page it is given the nexus's scope, its set's decryption mode and its count of supplemental keys.
 use Rattle.std.specs.Prelude.{ℕ, ◌+◌, Bool, true, false, List, ltb, leb, length}
-use Rattle.arrays.specs.Base.{if◌then◌else◌}
+use Rattle.arrays.specs.Base.{when◌then◌else◌}
 use Rattle.wire.specs.Rules.{length_wrong, breach}
 use Rattle.answer.specs.Answers.{sense_of}
 use Rattle.answer.specs.declared.Answer.{Answer}
@@ -31,8 +31,8 @@ public_page lock = accepted_page (record { scope = public_scope; lock = lock; su
 unfoldable pub supplemental_page : List ℕ → ℕ → ℕ → ℕ → Checked
 supplemental_page p scope mode count =
     let fault = breach (supplemental_rules p scope mode) (length p) in
-    if ltb fault (length p) then refused_page (FieldWrong fault)
-    else if leb supplemental_most count then refused_page FifthSupplementalKey
+    when ltb fault (length p) then refused_page (FieldWrong fault)
+    else when leb supplemental_most count then refused_page FifthSupplementalKey
     else accepted_page (record { scope = scope_of p; lock = false; supplemental = true; fields = only_key (key_of p) })
 
 -- what a page says that makes a set
@@ -44,16 +44,16 @@ unfoldable pub set_page : List ℕ → Checked
 set_page p =
     let fault = breach (set_rules p) (length p) in
     let end = key_end p + (listed_of p).good in
-    if ltb fault (length p) then refused_page (FieldWrong fault)
-    else if ltb end (length p) then refused_page (FieldWrong end)
+    when ltb fault (length p) then refused_page (FieldWrong fault)
+    else when ltb end (length p) then refused_page (FieldWrong end)
     else accepted_page (set_said p)
 
 -- "Answer 7: fewer than 20 bytes, or page length plus 4 isn't the byte count. Answer 8 in every other fault"
 unfoldable pub checked : List ℕ → ℕ → ℕ → ℕ → Checked
 checked p scope mode count =
     let fault = breach (open_rules p) (length p) in
-    if length_wrong key_from p then refused_page PageLengthWrong
-    else if ltb fault (length p) then refused_page (FieldWrong fault)
-    else if is_public p then public_page (lock_of p)
-    else if sdk_of p then supplemental_page p scope mode count
+    when length_wrong key_from p then refused_page PageLengthWrong
+    else when ltb fault (length p) then refused_page (FieldWrong fault)
+    else when is_public p then public_page (lock_of p)
+    else when sdk_of p then supplemental_page p scope mode count
     else set_page p

@@ -1,6 +1,6 @@
 -- Document 01, "The Set Data Encryption page (0010h)": its fields. p is the page, a list of bytes.
 use Rattle.std.specs.Prelude.{ℕ, ◌+◌, Bool, ◌&&◌, List, eqb, take, drop}
-use Rattle.arrays.specs.Base.{if◌then◌else◌}
+use Rattle.arrays.specs.Base.{when◌then◌else◌}
 use Rattle.wire.specs.Numbers.{byte_at, word_at}
 use Rattle.wire.specs.Bits.{bits, bit_at}
 use Rattle.wire.specs.Buffers.{padded}
@@ -93,7 +93,7 @@ rdmd_of encryption rdmc = encrypts encryption && eqb rdmc 3
 
 -- "Without ENCRYPT the list is empty": how many bytes after the key are good, and the key-associated data
 unfoldable pub list_of : ℕ → List ℕ → Listed
-list_of encryption rest = if encrypts encryption then read_kads rest else record { good = 0; kads = no_kads }
+list_of encryption rest = when encrypts encryption then read_kads rest else record { good = 0; kads = no_kads }
 
 abbrev pub listed_of : List ℕ → Listed
 listed_of p = list_of (encryption_of p) (drop (key_end p) p)

@@ -2,7 +2,7 @@
 -- one list, in document 01's order, each with the byte that 02 has it point to. p is the page; the nexus's scope and its set's decryption mode
 -- are given. That the byte of answer 8 is the lowest of them is a theorem (`page-judged`).
 use Rattle.std.specs.Prelude.{ℕ, not, ◌&&◌, List, [], ◌∷◌, ◌++◌, leb, eqb, length, drop}
-use Rattle.arrays.specs.Base.{if◌then◌else◌}
+use Rattle.arrays.specs.Base.{when◌then◌else◌}
 use Rattle.wire.specs.Numbers.{byte_at}
 use Rattle.wire.specs.Rules.{Rule, rule, zero_rules}
 use Rattle.kad.specs.Rules.{list_rules}
@@ -44,7 +44,7 @@ every_set_rule p = rule 4 (eqb (reserved_of p) 0) ∷ (reserved p ++ set_values 
 unfoldable pub every_list_rule : List ℕ → List Rule
 every_list_rule p =
     let rest = drop (key_end p) p in
-    if encrypts (encryption_of p) then list_rules (length rest) (key_end p) rest Nothing else rule (key_end p) (leb (length p) (key_end p)) ∷ []
+    when encrypts (encryption_of p) then list_rules (length rest) (key_end p) rest Nothing else rule (key_end p) (leb (length p) (key_end p)) ∷ []
 
 -- 01: "With SDK 1 (LOCAL or ALL) .. reserved parts, algorithm and formats as above; key length 32", the key as above; "no descriptors"
 abbrev pub supplemental_values : List ℕ → List Rule
@@ -63,7 +63,7 @@ every_supplemental_rule p scope mode =
 -- 01: "With PUBLIC, past the page code and length only SCOPE and LOCK are read"
 unfoldable pub every_scoped_rule : List ℕ → ℕ → ℕ → List Rule
 every_scoped_rule p scope mode =
-    if is_public p then [] else if sdk_of p then every_supplemental_rule p scope mode else every_set_rule p ++ every_list_rule p
+    when is_public p then [] else when sdk_of p then every_supplemental_rule p scope mode else every_set_rule p ++ every_list_rule p
 
 -- 01: "page code other than 0010h; SCOPE other than 0 PUBLIC, 1 LOCAL, 2 ALL", then by the scope
 abbrev pub every_rule : List ℕ → ℕ → ℕ → List Rule

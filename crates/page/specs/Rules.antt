@@ -1,7 +1,7 @@
 -- Document 01, "The Set Data Encryption page (0010h)": its rules, with request 2 of document 02. p is the page, a list of bytes.
 -- A rule names the byte that a fault points to; the rules stand in the order of the bytes.
 use Rattle.std.specs.Prelude.{ℕ, Bool, not, ◌&&◌, ◌||◌, List, [], ◌∷◌, ◌++◌, leb, eqb, length}
-use Rattle.arrays.specs.Base.{if◌then◌else◌}
+use Rattle.arrays.specs.Base.{when◌then◌else◌}
 use Rattle.wire.specs.Numbers.{byte_at}
 use Rattle.wire.specs.Rules.{Rule, rule, zero_rules}
 use Rattle.parameters.specs.Codes.{all_scope, disable, encrypt, mixed, algorithm, encrypts, decrypts, needs_key}
@@ -37,7 +37,7 @@ plain_rules p =
 
 -- "Key length is 32 where encryption is 2 or decryption is 2 or 3, otherwise 0 (house)"
 abbrev pub key_length : ℕ → ℕ → ℕ
-key_length encryption decryption = if needs_key encryption decryption then key_size else 0
+key_length encryption decryption = when needs_key encryption decryption then key_size else 0
 
 -- the key length; "With either SDK, a key that runs past the page's end is a fault"
 unfoldable pub key_rules : List ℕ → ℕ → List Rule

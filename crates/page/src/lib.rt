@@ -1,9 +1,11 @@
 // The Set Data Encryption page: its bytes 4 and 5, what it gives, and what its check answers.
+#![tactic(auto)]
+
 use answer::{Answer, Sense};
 use parameters::Fields;
 
 // The Set page's byte 4.
-#[derive(Drop)]
+#[derive(Clone, Copy)]
 pub struct SetByte4 {
     pub scope: u8,
     pub reserved: u8,
@@ -11,7 +13,7 @@ pub struct SetByte4 {
 }
 
 // The Set page's byte 5.
-#[derive(Drop)]
+#[derive(Clone, Copy)]
 pub struct SetByte5 {
     pub ceem: u8,
     pub rdmc: u8,
@@ -22,7 +24,7 @@ pub struct SetByte5 {
 }
 
 // An accepted page. One that is PUBLIC has no fields, a supplemental one its key alone.
-#[derive(Drop)]
+#[derive(Clone, Copy)]
 pub struct Page {
     pub scope: u8,
     pub lock: bool,
@@ -31,7 +33,7 @@ pub struct Page {
 }
 
 // What the check answers, and the page (zeros where refused).
-#[derive(Drop)]
+#[derive(Clone, Copy)]
 pub struct Checked {
     pub answer: Answer,
     pub sense: Sense,

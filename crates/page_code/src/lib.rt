@@ -1,4 +1,6 @@
 // The Set Data Encryption page: its rules checked, its fields read.
+#![tactic(auto)]
+
 ghost use Rattle.std.specs.Prelude.{◌≡◌, ◌≤◌, length};
 ghost use Rattle.wire.specs.Numbers.{byte_at};
 ghost use Rattle.wire.specs.Rules.{breach};

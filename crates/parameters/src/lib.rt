@@ -1,4 +1,6 @@
 // What a set is made of: the fields that a page gives it, and supplemental keys.
+#![tactic(auto)]
+
 use kad::Kads;
 
 pub const PUBLIC: u8 = 0;
@@ -31,7 +33,7 @@ pub const SUPPLEMENTAL_MOST: u8 = 4;
 pub const SUPPLEMENTAL_SIZE: usize = 128;
 
 // What a page says of a set.
-#[derive(Drop)]
+#[derive(Clone, Copy)]
 pub struct Fields {
     pub encryption: u8,
     pub decryption: u8,
@@ -61,7 +63,7 @@ impl Fields {
 }
 
 // Up to four supplemental keys of 32 bytes, one after another; bytes past the count are zero.
-#[derive(Drop)]
+#[derive(Clone, Copy)]
 pub struct Supplemental {
     pub count: u8,
     pub keys: [u8; SUPPLEMENTAL_SIZE],

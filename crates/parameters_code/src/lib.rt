@@ -1,4 +1,6 @@
 // What makes the parts of a set good or zero.
+#![tactic(auto)]
+
 ghost use Rattle.std.specs.Prelude.{◌≡◌};
 ghost use Rattle.parameters.specs.Codes.{encrypts, decrypts, needs_key};
 ghost use Rattle.parameters.specs.Good.{field_codes, keys_past, fields_zero};

@@ -7,7 +7,7 @@ use mathlib.Core.List.{List, [], ◌∷◌, map}
 use lib.Count.{count_trailing_zeros}
 use lib.Dec.{leb, eqb}
 use lib.ListN.{replicate}
-use Rattle.arrays.specs.Base.{if◌then◌else◌}
+use Rattle.arrays.specs.Base.{when◌then◌else◌}
 use Rattle.arrays.specs.Arrays.{map_from, find, count}
 use Rattle.parameters.specs.Codes.{public_scope, local_scope}
 use Rattle.parameters.specs.Fields.{no_fields}
@@ -31,7 +31,7 @@ digit mixture k = eqb (mixture / 2 ^ k % 2) 1
 abbrev mixed : ℕ → State
 mixed mixture =
     let s = power_on 16 5 in
-    with_sets (map_from (λ place set. established (9 - place) (if digit (2 * mixture) place then local_scope else public_scope) 0 no_fields) 0 s.sets)
+    with_sets (map_from (λ place set. established (9 - place) (when digit (2 * mixture) place then local_scope else public_scope) 0 no_fields) 0 s.sets)
     (with_nexuses (map_from (λ n nexus. with_lock (leb 5 n && leb n 8 && digit mixture (12 - n)) nexus) 0 s.nexuses) s)
 
 -- the room by the words, and by a search
@@ -59,7 +59,7 @@ how_many asked = count (λ mixture. asked) (of_each (λ mixture. by_words (mixed
 abbrev last_alone : ℕ → ℕ → State
 last_alone last scope =
     let s = power_on 16 (last + 1) in
-    with_sets (map_from (λ place set. if eqb place last then established 2 scope 0 no_fields else established 1 local_scope 0 no_fields) 0 s.sets)
+    with_sets (map_from (λ place set. when eqb place last then established 2 scope 0 no_fields else established 1 local_scope 0 no_fields) 0 s.sets)
     (with_nexuses (map_from (λ n nexus. with_lock (eqb n 1) nexus) 0 s.nexuses) s)
 
 -- In each mixture the words give what a search gives. Place 1 is empty in half of the mixtures, place 2 in half of the others ..; with all

@@ -10,7 +10,7 @@ use borrow.Author.Tests.{not-true}
 use lib.Dec.{eqb}
 use lib.ListN.{length, drop}
 use lib.Seq.{drop-set-lt}
-use Rattle.arrays.specs.Base.{if◌then◌else◌}
+use Rattle.arrays.specs.Base.{when◌then◌else◌}
 use Rattle.arrays.specs.Arrays.{fold_from, each, runs}
 use Rattle.arrays.proofs.Base.{cases, and_both, if-elim, if-same, if-false}
 use Rattle.arrays.proofs.Laws.{get_d-map_from-kept, first-of, rest_of}
@@ -37,7 +37,7 @@ pub releases-elim : (P : List Action → Type 0) → P [] → ((place : ℕ) (re
 unfolding releases
 releases-elim P none more picked l = from l 0
   where
-    from : (l : List Set) (k : ℕ) → P (fold_from (λ place set rest. if due picked place set then release place ∷ rest else rest) [] k l)
+    from : (l : List Set) (k : ℕ) → P (fold_from (λ place set rest. when due picked place set then release place ∷ rest else rest) [] k l)
     from [] k = none
     from (x ∷ l) k = if-elim P (due picked k x) (λ t. more k _ (from l (suc k))) (λ f. from l (suc k))
 
@@ -49,11 +49,11 @@ act-later s a = drop-set-lt (suc a.place) s.sets a.place _ (omega arith)
 module _ (test : ℕ → Set → Bool) where
   -- the releases of the places that pass a test, from a place on
   abbrev from : ℕ → List Set → List Action
-  from = fold_from (λ place set rest. if test place set then release place ∷ rest else rest) []
+  from = fold_from (λ place set rest. when test place set then release place ∷ rest else rest) []
 
   -- one place released if its set passes as it stands
   abbrev step : ℕ → State → State
-  step place s = if test place (set_at s place) then act s (release place) else s
+  step place s = when test place (set_at s place) then act s (release place) else s
 
   -- a step leaves the places after it
   step-later : (k : ℕ) (s : State) → drop (suc k) (step k s).sets ≡ drop (suc k) s.sets
@@ -85,7 +85,7 @@ releases-run picked s = steps_all (due picked) s
 
 -- where every place is spared nothing is released
 module _ (picked : ℕ → Set → Bool) where
-  spared-from : (sets : List Set) (k : ℕ) → fold_from (λ place set rest. spared picked place set && rest) true k sets ≡ true → fold_from (λ place set rest. if due picked place set then release place ∷ rest else rest) [] k sets ≡ []
+  spared-from : (sets : List Set) (k : ℕ) → fold_from (λ place set rest. spared picked place set && rest) true k sets ≡ true → fold_from (λ place set rest. when due picked place set then release place ∷ rest else rest) [] k sets ≡ []
   spared-from [] k e = refl
   spared-from (set ∷ sets) k e =
       let h = and_both (spared picked k set) _ e in

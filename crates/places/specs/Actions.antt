@@ -2,7 +2,7 @@
 -- No definition here looks at an instance number but to give one.
 use Rattle.std.specs.Prelude.{ℕ, ◌+◌, ◌*◌, ◌%◌, ◌^◌, Bool, true, false, not, ◌&&◌, List, [], ◌∷◌, ◌++◌, leb, eqb, set}
 use Rattle.std.proofs.lemmas.List.Edits.{sets}
-use Rattle.arrays.specs.Base.{if◌then◌else◌}
+use Rattle.arrays.specs.Base.{when◌then◌else◌}
 use Rattle.arrays.specs.Arrays.{map_from, fold_from, find}
 use Rattle.parameters.specs.Codes.{public_scope, local_scope, all_scope}
 use Rattle.parameters.specs.Fields.{key_size, supplemental_most}
@@ -39,7 +39,7 @@ establish place owner scope fields = record { place = place; contents = establis
 -- "nexuses that were LOCAL there, or ALL for place 0, become PUBLIC; their lock and saved numbers stay":
 -- those whose set the place held (a PUBLIC nexus is PUBLIC already)
 abbrev pub freed : State → ℕ → ℕ → Nexus → Nexus
-freed s place n nexus = if eqb (selected s n) place then with_scope public_scope nexus else nexus
+freed s place n nexus = when eqb (selected s n) place then with_scope public_scope nexus else nexus
 
 -- it draws once, and "the place changed takes the new value"
 unfoldable pub act : State → Action → State
@@ -62,11 +62,11 @@ spared picked place set = not (due picked place set)
 
 -- the releases of the places that are due, in rising order
 unfoldable pub releases : (ℕ → Set → Bool) → List Set → List Action
-releases picked = fold_from (λ place set rest. if due picked place set then release place ∷ rest else rest) [] 0
+releases picked = fold_from (λ place set rest. when due picked place set then release place ∷ rest else rest) [] 0
 
 -- the nexus's own LOCAL place, if any
 unfoldable pub own_place : State → ℕ → Found
-own_place s n = if eqb (nexus_at s n).scope local_scope then owned_place s.sets n else Nowhere
+own_place s n = when eqb (nexus_at s n).scope local_scope then owned_place s.sets n else Nowhere
 
 abbrev pub release_found : Found → List Action
 release_found (At place) = release place ∷ []
@@ -119,14 +119,14 @@ establish_in NoRoom n fields = []
 -- "PUBLIC: the nexus's own LOCAL place, if any, is released. ALL: its LOCAL place, if any, is released first; place 0 is established"
 abbrev pub shared_actions : State → ℕ → Page → List Action
 shared_actions s n page =
-    if eqb page.scope all_scope then release_own s n ++ establish 0 n all_scope page.fields ∷ []
+    when eqb page.scope all_scope then release_own s n ++ establish 0 n all_scope page.fields ∷ []
     else release_own s n
 
 -- "An accepted page that is PUBLIC or has SDK 0"; a supplemental key is no action
 unfoldable pub page_actions : State → ℕ → Page → List Action
 page_actions s n page =
-    if page.supplemental then []
-    else if eqb page.scope local_scope then establish_in (room s n) n page.fields
+    when page.supplemental then []
+    else when eqb page.scope local_scope then establish_in (room s n) n page.fields
     else shared_actions s n page
 
 -- "The nexus's scope is SCOPE, lock is LOCK; with LOCK 1 it saves its selected set's number afterwards, with LOCK 0 the saved number
@@ -135,8 +135,8 @@ abbrev pub nexus_after : Page → ℕ → Nexus → Nexus
 nexus_after page number x =
     with_scope page.scope
     (with_lock page.lock
-    (with_saved (if page.lock then number else x.saved)
-    (with_last_local (if eqb page.scope local_scope then number else x.last_local) x)))
+    (with_saved (when page.lock then number else x.saved)
+    (with_last_local (when eqb page.scope local_scope then number else x.last_local) x)))
 
 unfoldable pub sender_after : State → ℕ → Page → State
 sender_after s n page =
@@ -146,7 +146,7 @@ sender_after s n page =
 -- "answer 9 if the set has 4 already, else the key is appended. Instance numbers and locks stay."
 abbrev pub appended : List ℕ → Supplemental → Supplemental
 appended key keys =
-    if leb supplemental_most keys.count then keys
+    when leb supplemental_most keys.count then keys
     else record { count = keys.count + 1; keys = sets keys.keys (keys.count * key_size) key }
 
 unfoldable pub supplemented : State → ℕ → Page → State
@@ -154,7 +154,7 @@ supplemented s n page = at_place (selected s n) (λ set. with_supplemental (appe
 
 -- an accepted page taken: its actions, then what it leaves the sender or its set with
 unfoldable pub taken : State → ℕ → Page → State
-taken s n page = if page.supplemental then supplemented s n page else sender_after (acts s (page_actions s n page)) n page
+taken s n page = when page.supplemental then supplemented s n page else sender_after (acts s (page_actions s n page)) n page
 
 -- "Events, places in rising order: demount releases CKOD sets; nexus reservation loss, LOCAL CKORL sets of that nexus;
 -- device reservation loss, place 0 if CKORL; preempt by a nexus, CKORP sets; microcode, all; vendor release, the named place."
@@ -168,4 +168,4 @@ released_by (VendorRelease named) place set = eqb place named
 
 -- the same releases one place at a time, as a loop makes them
 abbrev pub release_step : (ℕ → Set → Bool) → ℕ → State → State
-release_step picked place s = if due picked place (set_at s place) then act s (release place) else s
+release_step picked place s = when due picked place (set_at s place) then act s (release place) else s

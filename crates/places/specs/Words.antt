@@ -2,7 +2,7 @@
 -- (proofs/Words: room-by-words).
 use Rattle.std.specs.Prelude.{ℕ, eqb}
 use Rattle.std.specs.Int.Count.{count_trailing_zeros}
-use Rattle.arrays.specs.Base.{if◌then◌else◌}
+use Rattle.arrays.specs.Base.{when◌then◌else◌}
 use Rattle.arrays.specs.Arrays.{word_of}
 use Rattle.device.specs.Record.{State}
 use Rattle.device.specs.declared.Found.{Found}
@@ -17,7 +17,7 @@ local_words s = record { empty = word_of empty_local s.sets; unlocked = word_of 
 
 -- "and take the lowest set bit by the language's own count": the trailing zeros of 32 bits; where no bit is set there is none
 abbrev pub lowest_bit : ℕ → Found
-lowest_bit word = if eqb word 0 then Nowhere else At (count_trailing_zeros 32 word)
+lowest_bit word = when eqb word 0 then Nowhere else At (count_trailing_zeros 32 word)
 
 -- 01's "the lowest empty one, else the lowest whose owner has lock 0, which is first released; else answer 10"
 abbrev pub room_by : LocalWords → Room

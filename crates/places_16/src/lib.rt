@@ -1,4 +1,6 @@
 // Establishing, releasing, selecting: what a page or an event does to the places.
+#![tactic(auto)]
+
 ghost use Rattle.std.specs.Prelude.{◌<◌, ◌≡◌};
 ghost use Rattle.arrays.specs.Arrays.{map_from, each};
 ghost use Rattle.sizes_16.specs.Sizes.{place_count};

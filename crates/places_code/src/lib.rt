@@ -1,6 +1,8 @@
 // Establishing, releasing, selecting: what a page or an event does to the places.
+#![tactic(auto)]
+
 ghost use Rattle.std.specs.Prelude.{◌≡◌};
-ghost use Rattle.arrays.specs.Base.{if◌then◌else◌};
+ghost use Rattle.arrays.specs.Base.{when◌then◌else◌};
 ghost use Rattle.parameters.specs.Codes.{public_scope};
 ghost use Rattle.device.specs.Updates.{with_scope};
 ghost use Rattle.places.specs.Actions.{drawn, due, free_at, evicting_at, is_no_room, needs_place, nexus_after, appended, released_by};
@@ -20,7 +22,7 @@ pub fn draw(counter: u32) -> u32
 
 // A nexus whose set the place held becomes PUBLIC.
 pub fn free(nexus: Nexus, held: bool) -> Nexus
-    ensures { result ≡ if held then with_scope public_scope nexus else nexus }
+    ensures { result ≡ when held then with_scope public_scope nexus else nexus }
 {
     let mut out = nexus;
     if held {
@@ -86,7 +88,7 @@ pub fn needs_place(page: Page) -> bool
 
 // A number that is saved where a flag says so, else the one that stays.
 fn number_if(saves: bool, number: u32, stays: u32) -> u32
-    ensures { result ≡ if saves then number else stays }
+    ensures { result ≡ when saves then number else stays }
 {
     if saves { number } else { stays }
 }

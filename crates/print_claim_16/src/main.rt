@@ -1,74 +1,98 @@
 // print_claim RATE: a recording on standard input. On standard output the claim's text, at a rate in pence. A refusal is a line on standard
 // error, and nothing is on standard output. Here is what is read and written; what a claim says, to the character, is claim_16's.
+#![tactic(auto)]
+
 use claim_16::TEXT_MOST;
-use libc::{STDERR_FILENO, STDIN_FILENO, STDOUT_FILENO};
+use pipe::Failure;
 use recording::Verdict;
+use std::io;
+use std::io::{Read, Write};
+use std::process::ExitCode;
+use std::rt::Env;
 use text::Number;
 
-fn say(line: &[u8]) {
-    io::write_all(STDERR_FILENO, line);
+// Room for a file: one so long is refused.
+const FILE_ROOM: usize = 65536;
+
+// Room for an argument.
+const WORD_ROOM: usize = 4096;
+
+fn say(rt: &impl Eprint, line: &str) -> Result<(), Failure> {
+    eprintln!(rt; "{line}").map_err(Failure::Message)
 }
 
 // The first argument as a number. One of more than 4,096 characters is none.
-fn rate() -> Number {
-    let mut word = io::buffer();
-    let length = os::arg(1, &mut word);
-    if os::errno() != 0 {
-        return Number {
+fn rate(rt: &impl Env) -> Number {
+    let mut word = [0u8; WORD_ROOM];
+    match rt.arg(1, &mut word) {
+        Ok(length) => text_code::read_decimal(&word[0..length]),
+        Err(_) => Number {
             decimal: false,
             value: 0,
-        };
+        },
     }
-    text_code::read_decimal(&word[0..length])
 }
 
-// What standard input still holds, or whether it failed: negative.
-fn left() -> isize {
+// What standard input still holds, or why it failed.
+fn left<R: Read>(input: &mut R) -> io::Result<usize> {
     let mut more = [0u8; 1];
-    libc::read(STDIN_FILENO, &mut more)
+    input.read(&mut more)
 }
 
-fn refuse(verdict: Verdict) {
+fn refuse(rt: &impl Eprint, verdict: Verdict) -> Result<(), Failure> {
     if recording_code::verdict_number(verdict) == 22 {
-        say(b"22 the recording is wrong, and none of it is claimed\n");
-        return;
+        return say(rt, "22 the recording is wrong, and none of it is claimed");
     }
-    say(b"23 the rate is above 1000000 pence, and nothing is claimed\n");
+    say(
+        rt,
+        "23 the rate is above 1000000 pence, and nothing is claimed",
+    )
 }
 
-fn write_text(text: [u8; TEXT_MOST], length: usize) {
+fn write_text<W: Write>(
+    output: &mut W,
+    text: [u8; TEXT_MOST],
+    length: usize,
+) -> Result<(), Failure> {
     if TEXT_MOST < length {
-        return;
+        return Ok(());
     }
-    if !io::write_all(STDOUT_FILENO, &text[0..length]) {
-        os::fail(b"standard output");
-    }
+    output.write_all(&text[0..length]).map_err(Failure::Output)
 }
 
 // Claims a file at a rate.
-fn print(file: &[u8], rate: u64) {
+fn print<W: Write>(
+    rt: &impl Eprint,
+    output: &mut W,
+    file: &[u8],
+    rate: u64,
+) -> Result<(), Failure> {
     let mut text = [0u8; TEXT_MOST];
     let claimed = claim_16::claim(file, rate, &mut text);
     let verdict = claimed.verdict;
     if recording_code::verdict_number(verdict) != 0 {
-        refuse(verdict);
-        return;
+        return refuse(rt, verdict);
     }
-    write_text(text, claimed.length);
+    write_text(output, text, claimed.length)
 }
 
 // A file is read as far as 65,536 bytes: one so long is refused, since its total can't be its length.
-fn main() {
-    let number = rate();
+fn run<R: Read, W: Write>(
+    rt: &(impl Env + Eprint),
+    input: &mut R,
+    output: &mut W,
+) -> Result<(), Failure> {
+    let number = rate(rt);
     if !number.decimal {
-        say(b"usage: print_claim_16 RATE < RECORDING\n");
-        return;
+        return say(rt, "usage: print_claim_16 RATE < RECORDING");
     }
-    let mut file = io::large_buffer();
-    let length = io::read_full(STDIN_FILENO, &mut file);
-    if left() < 0 {
-        os::fail(b"standard input");
-        return;
-    }
-    print(&file[0..length], number.value);
+    let mut file = [0u8; FILE_ROOM];
+    let length = pipe::read_full(input, &mut file).map_err(Failure::Input)?;
+    left(input).map_err(Failure::Input)?;
+    print(rt, output, &file[0..length], number.value)
+}
+
+fn main(rt: HostRuntime) -> ExitCode {
+    let outcome = run(&rt, &mut rt.stdin(), &mut rt.stdout());
+    pipe::end(&rt, outcome)
 }

@@ -4,7 +4,7 @@ use Prim.Native.Nat.{ℕ}
 use mathlib.Core.Path.{◌≡◌, refl, sym, ap, ◌∙◌}
 use mathlib.Core.Bool.{Bool}
 use mathlib.Core.List.{List, ◌∷◌, ◌++◌, append_assoc}
-use lib.ListN.{length, drop}
+use lib.ListN.{drop}
 use lib.Seq.{get_or_at, drop-drop, drop_at}
 use Rattle.wire.proofs.Numbers.{number-four}
 use Rattle.kad.specs.Kad.{u_most, a_most, Sized}

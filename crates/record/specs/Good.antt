@@ -1,6 +1,6 @@
 -- docs/CONSOLE.md: "A record's bytes are good where the device that they give has the same bytes again".
 use Rattle.std.specs.Prelude.{ℕ, ◌^◌, ◌<◌, ◌≡◌, Bool, ◌&&◌, List, eqb, length, drop}
-use Rattle.arrays.specs.Base.{if◌then◌else◌}
+use Rattle.arrays.specs.Base.{when◌then◌else◌}
 use Rattle.arrays.specs.Arrays.{all}
 use Rattle.wire.specs.Numbers.{yes_or_no}
 use Rattle.wire.specs.Buffers.{same_bytes}
@@ -19,7 +19,7 @@ good_bytes nexuses places bytes = same_bytes bytes (record_bytes (record_read ne
 
 -- the record that good bytes give; others are refused, and give that of power-on
 unfoldable pub record_taken : (nexuses places : ℕ) → List ℕ → Worded
-record_taken nexuses places bytes = if good_bytes nexuses places bytes then record_read nexuses places bytes else with_words (power_on nexuses places)
+record_taken nexuses places bytes = when good_bytes nexuses places bytes then record_read nexuses places bytes else with_words (power_on nexuses places)
 
 -- ---- the same, said of the bytes themselves: "any .. bytes whose yes/no bytes are 0 or 1"
 

@@ -1,4 +1,6 @@
 // The bytes of this model's device record, in the order of docs/CONSOLE.md, and the record that bytes give.
+#![tactic(auto)]
+
 ghost use Rattle.std.specs.Prelude.{◌≡◌, ◌*◌, length, drop};
 ghost use Rattle.std.proofs.lemmas.List.Edits.{sets};
 ghost use Rattle.wire.specs.Parts.{joined, parts};
@@ -23,7 +25,7 @@ const WORDS_FROM: usize = NEXUSES_FROM + NEXUSES * NEXUS_SIZE;
 pub const RECORD_SIZE: usize = WORDS_FROM + PLACES * WORD_SIZE;
 
 // What bytes give: whether they are a record, and the record; that of power-on where they are not.
-#[derive(Drop)]
+#[derive(Clone, Copy)]
 pub struct Loaded {
     pub good: bool,
     pub taken: Record,

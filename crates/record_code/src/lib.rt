@@ -1,4 +1,6 @@
 // The bytes of a set, of a nexus and of key-associated data, in the order of docs/CONSOLE.md, and back, and a word's; numbers are big-endian.
+#![tactic(auto)]
+
 ghost use Rattle.std.specs.Prelude.{◌≡◌, ◌∷◌, drop};
 ghost use Rattle.wire.specs.Numbers.{wide, flag_at};
 ghost use Rattle.record.specs.Bytes.{kads_bytes, set_head, set_bytes, nexus_bytes};

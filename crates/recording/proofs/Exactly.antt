@@ -8,7 +8,7 @@ use native.Mathlib.Omega.{arith}
 use lib.Dec.{leb}
 use lib.ListN.{length}
 use borrow.Author.Tests.{leb-true, le-leb, eq-eqb}
-use Rattle.arrays.specs.Base.{if◌then◌else◌}
+use Rattle.arrays.specs.Base.{when◌then◌else◌}
 use Rattle.arrays.proofs.Base.{both, and_left, and_right, each_holds}
 use Rattle.arrays.proofs.Laws.{all_cons}
 use Rattle.wire.specs.Parts.{Each}
@@ -24,7 +24,7 @@ module _ (page_count : ℕ) where
   unfolding sound
   event-told e h =
       let form = form_of e.kind in
-      let t = each_holds (leb e.kind 11) (leb e.nexus form.nexus ∷ leb e.argument form.argument ∷ leb (e.page_offset + e.page_length) (if form.page then page_count else 0) ∷ []) h in
+      let t = each_holds (leb e.kind 11) (leb e.nexus form.nexus ∷ leb e.argument form.argument ∷ leb (e.page_offset + e.page_length) (when form.page then page_count else 0) ∷ []) h in
       record { kind = leb-true _ _ t.0; nexus = leb-true _ _ t.1.0; argument = leb-true _ _ t.1.1.0; page = leb-true _ _ t.1.1.1.0 }
 
   event-sound : (e : Entry) → SoundEvent page_count e → sound page_count e ≡ true

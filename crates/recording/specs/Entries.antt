@@ -1,6 +1,6 @@
 -- Document 02, request 3: "Each event has 8 bytes: kind, nexus, argument (16 bits), page offset from the page bytes, page length."
 use Rattle.std.specs.Prelude.{ℕ, suc, ◌+◌, ◌/◌, Bool, ◌&&◌, List, [], ◌∷◌, map, leb, length, take, drop}
-use Rattle.arrays.specs.Base.{if◌then◌else◌}
+use Rattle.arrays.specs.Base.{when◌then◌else◌}
 use Rattle.arrays.specs.Arrays.{all}
 use Rattle.wire.specs.Numbers.{byte_at, word_at}
 use Rattle.wire.specs.Parts.{parts}
@@ -34,7 +34,7 @@ unfoldable pub sound : (page_count : ℕ) → Entry → Bool
 sound page_count e =
     let form = form_of e.kind in
     is_call e.kind && leb e.nexus form.nexus && leb e.argument form.argument
-    && leb (e.page_offset + e.page_length) (if form.page then page_count else 0)
+    && leb (e.page_offset + e.page_length) (when form.page then page_count else 0)
 
 abbrev pub all_sound : (page_count : ℕ) → List Entry → Bool
 all_sound page_count = all (sound page_count)
@@ -42,7 +42,7 @@ all_sound page_count = all (sound page_count)
 -- how many are sound, up to one that isn't
 unfoldable pub sound_run : (page_count : ℕ) → List Entry → ℕ
 sound_run page_count [] = 0
-sound_run page_count (e ∷ more) = if sound page_count e then suc (sound_run page_count more) else 0
+sound_run page_count (e ∷ more) = when sound page_count e then suc (sound_run page_count more) else 0
 
 -- "IN and OUT events use protocol 20h"
 abbrev pub event_asked : Entry → Asked

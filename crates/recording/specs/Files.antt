@@ -1,7 +1,7 @@
 -- Document 02, request 3: "Header, four big-endian 16-bit numbers: event count, offset of the first event (8), offset of the page bytes,
 -- total length."
 use Rattle.std.specs.Prelude.{ℕ, ◌+◌, ◌*◌, ◌-◌, ◌/◌, Bool, ◌&&◌, List, ◌++◌, leb, eqb, length, take, drop}
-use Rattle.arrays.specs.Base.{if◌then◌else◌}
+use Rattle.arrays.specs.Base.{when◌then◌else◌}
 use Rattle.wire.specs.Numbers.{word_at, two}
 use Rattle.drive.specs.Calls.{Call}
 use Rattle.recording.specs.declared.Header.{Header}
@@ -44,7 +44,7 @@ sound_file file = headed file && all_sound (length (page_bytes file)) (entries (
 
 -- ".. refuses the file whole with 22"
 abbrev pub file_verdict : List ℕ → Verdict
-file_verdict file = if sound_file file then Done else RecordingWrong
+file_verdict file = when sound_file file then Done else RecordingWrong
 
 -- its calls
 abbrev pub calls_of : List ℕ → List Call

@@ -1,6 +1,6 @@
 -- What is claimed of a file that replay takes (proofs/Exactly): document 02, request 3, in numbers and without a test.
 use Rattle.std.specs.Prelude.{ℕ, ◌+◌, ◌*◌, ◌≤◌, ◌≡◌, List, length}
-use Rattle.arrays.specs.Base.{if◌then◌else◌}
+use Rattle.arrays.specs.Base.{when◌then◌else◌}
 use Rattle.wire.specs.Parts.{Each}
 use Rattle.recording.specs.declared.Entry.{Entry}
 use Rattle.recording.specs.Forms.{form_of}
@@ -12,7 +12,7 @@ pub record SoundEvent (page_count : ℕ) (e : Entry) : Type 0 where
   pub kind : e.kind ≤ 11
   pub nexus : e.nexus ≤ (form_of e.kind).nexus
   pub argument : e.argument ≤ (form_of e.kind).argument
-  pub page : e.page_offset + e.page_length ≤ (if (form_of e.kind).page then page_count else 0)
+  pub page : e.page_offset + e.page_length ≤ (when (form_of e.kind).page then page_count else 0)
 
 -- a header: the total is the file's length, the first event stands at 8, the page bytes just after the last event and within the file
 pub record Headed (file : List ℕ) : Type 0 where

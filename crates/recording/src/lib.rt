@@ -1,4 +1,5 @@
 // Document 02, request 3: a recorded session as bytes. A header, events of 8 bytes, page bytes.
+#![tactic(auto)]
 
 pub const HEADER_SIZE: usize = 8;
 
@@ -8,7 +9,7 @@ pub const ENTRY_SIZE: usize = 8;
 pub const PROTOCOL: u8 = 0x20;
 
 // The four numbers of a header.
-#[derive(Drop)]
+#[derive(Clone, Copy)]
 pub struct Header {
     pub event_count: usize,
     pub first_event: usize,
@@ -26,7 +27,7 @@ impl Header {
 }
 
 // An event. Its page is page_length bytes at an offset of the page bytes.
-#[derive(Drop)]
+#[derive(Clone, Copy)]
 pub struct Entry {
     pub kind: u8,
     pub nexus: u8,
@@ -36,7 +37,7 @@ pub struct Entry {
 }
 
 // What the fields of an event may hold: the largest nexus, the largest argument, and whether it has a page.
-#[derive(Drop)]
+#[derive(Clone, Copy)]
 pub struct Form {
     pub nexus: u8,
     pub argument: u16,
@@ -82,7 +83,7 @@ impl Form {
 }
 
 // What a recorded session as a whole is answered.
-#[derive(Drop)]
+#[derive(Clone, Copy)]
 pub enum Verdict {
     Done,
     BatchNotTaken,

@@ -1,6 +1,8 @@
 // A recorded session read: which events and files are sound, what an event asks.
+#![tactic(auto)]
+
 ghost use Rattle.std.specs.Prelude.{◌≡◌, ◌<◌, length};
-ghost use Rattle.arrays.specs.Base.{if◌then◌else◌};
+ghost use Rattle.arrays.specs.Base.{when◌then◌else◌};
 ghost use Rattle.recording.specs.Verdicts.{verdict_number};
 ghost use Rattle.recording.specs.Forms.{form_of};
 ghost use Rattle.recording.specs.Entries.{entry_of, sound, entries, sound_run, event_asked, event_page};
@@ -64,7 +66,7 @@ fn form_of(kind: u8) -> Form
 
 // The page bytes that an event may name.
 fn page_room(page: bool, page_count: usize) -> usize
-    ensures { result ≡ if page then page_count else 0 }
+    ensures { result ≡ when page then page_count else 0 }
 {
     if page { page_count } else { 0 }
 }

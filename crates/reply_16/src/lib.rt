@@ -1,4 +1,6 @@
 // Replies of docs/CONSOLE.md on this model: number, sense and record as a value, the data in a lent buffer after the head.
+#![tactic(auto)]
+
 ghost use Rattle.std.specs.Prelude.{◌≡◌, ◌+◌, ◌≤◌, length};
 ghost use Rattle.device_16.specs.Model.{worded};
 ghost use Rattle.command.specs.Replies.{reply_head_size, answered, when_done, pointer, unknown_reply, out_reply, write_reply, read_reply, serves_reply, status_reply, take_reply, give_reply};
@@ -28,7 +30,7 @@ const VALUES_SIZE: usize = 11;
 
 // The record after the command stands first: after a byte and its padding the compiler copies it twice more. length counts the data bytes,
 // which are in the lent buffer from HEAD_SIZE on.
-#[derive(Drop)]
+#[derive(Clone, Copy)]
 pub struct Reply {
     pub after: Record,
     pub number: u8,

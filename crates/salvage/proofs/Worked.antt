@@ -1,7 +1,6 @@
 -- Files salvaged, by computing: the verdict, each byte of the buffer, and the report to the character.
 -- Assumes nothing.
 use Prim.Native.Nat.{ℕ}
-use Prim.Native.String.{String}
 use mathlib.Core.List.{List, [], ◌∷◌, ◌++◌}
 use lib.Dec.{T, eqb}
 use lib.ListN.{take, replicate}

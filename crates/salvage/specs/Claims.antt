@@ -1,7 +1,7 @@
 -- What the table of salvaged files claims (proofs/Worked), and when a claim holds.
 use Rattle.std.specs.Prelude.{ℕ, ◌+◌, Bool, true, ◌&&◌, List, [], ◌∷◌, ◌++◌, eqb, length, take, replicate}
 use Prim.Native.String.{String}
-use Rattle.arrays.specs.Base.{if◌then◌else◌}
+use Rattle.arrays.specs.Base.{when◌then◌else◌}
 use Rattle.text.specs.Characters.{bytes_of}
 use Rattle.drive.specs.Claims.{same_list}
 use Rattle.recording.specs.Verdicts.{verdict_number, is_taken}
@@ -35,7 +35,7 @@ abbrev holds : Salvaging → Bool
 holds t =
     let r = reported t.file in
     eqb (verdict_number r.verdict) t.number && same_list (written t.file (lent_bytes t.lent)) t.buffer
-    && same_list (if is_taken r.verdict then report_text r else []) (bytes_of t.report)
+    && same_list (when is_taken r.verdict then report_text r else []) (bytes_of t.report)
 
 unfoldable pub tried_so : List Salvaging → Bool
 tried_so [] = true

@@ -1,6 +1,6 @@
 -- Document 02, request 12: "Salvage of a damaged recording. Power loss leaves recordings with wrong headers or cut tails."
 use Rattle.std.specs.Prelude.{ℕ, ◌*◌, ◌-◌, ◌/◌, ◌%◌, ◌≡◌, Bool, ◌&&◌, List, leb, eqb, length, take}
-use Rattle.arrays.specs.Base.{if◌then◌else◌}
+use Rattle.arrays.specs.Base.{when◌then◌else◌}
 use Rattle.wire.specs.Buffers.{shown}
 use Rattle.recording.specs.Entries.{entry_size, entries, sound_run}
 use Rattle.recording.specs.Files.{header_size, header, event_bytes, page_bytes, file_of}
@@ -43,13 +43,13 @@ no_header = record { event_count = 0; first_event = 0; pages_from = 0; total = 0
 -- "Report the old and new values of each header number and how many whole events .. were dropped"; else "say 21"
 abbrev pub reported : (file : List ℕ) → Salvaged
 reported file =
-    if is_salvageable file
+    when is_salvageable file
     then record { verdict = Done; old = header file; new = header (salvaged file); dropped = dropped_count file }
     else record { verdict = NotSalvageable; old = no_header; new = no_header; dropped = 0 }
 
 -- the lent buffer gets the new file's first bytes, as many as it holds; of 21 "write nothing"
 abbrev pub written : (file buffer : List ℕ) → List ℕ
-written file buffer = if is_salvageable file then shown (salvaged file) buffer else buffer
+written file buffer = when is_salvageable file then shown (salvaged file) buffer else buffer
 
 -- what a salvage gives: the report, and each byte of the lent buffer
 pub record Saves (file buffer : List ℕ) (r : Salvaged) (after : List ℕ) : Type 0 where

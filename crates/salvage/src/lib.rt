@@ -1,11 +1,13 @@
 // Document 02, request 12: a damaged recording salvaged.
+#![tactic(auto)]
+
 use recording::{Header, Verdict};
 
 // The most bytes of a file.
 pub const FILE_MOST: usize = 65535;
 
 // What is reported: the old and the new numbers of the header, and how many events were dropped.
-#[derive(Drop)]
+#[derive(Clone, Copy)]
 pub struct Salvaged {
     pub verdict: Verdict,
     pub old: Header,

@@ -1,4 +1,6 @@
 // Document 02, request 12: a damaged recording salvaged, and the report told.
+#![tactic(auto)]
+
 ghost use Rattle.std.specs.Prelude.{◌≡◌, ◌++◌, ◌≤◌, ◌<◌, ◌+◌, ◌*◌, length};
 ghost use Rattle.wire.specs.Buffers.{shown};
 ghost use Rattle.text.specs.Making.{lines_most, told_lines, and_each, size_of};

@@ -9,7 +9,7 @@ use native.Mathlib.Omega.{arith}
 use borrow.Author.Tests.{leb-true}
 use lib.Dec.{eqb, leb}
 use lib.ListN.{length, get_or, length-append}
-use Rattle.arrays.specs.Base.{if◌then◌else◌}
+use Rattle.arrays.specs.Base.{when◌then◌else◌}
 use Rattle.arrays.specs.Arrays.{all}
 use Rattle.arrays.proofs.Base.{and_both, if-elim}
 use Rattle.arrays.proofs.Laws.{all_cons}
@@ -39,7 +39,7 @@ within : {a : List ℕ} {m n : ℕ} → Few a m → m ≤ n → Few a n
 within h l = record { low = omega (arith, h.low, l) }
 
 -- one or another
-either : (c : Bool) {a b : List ℕ} {m most : ℕ} → Few a m → m ≤ most → Few b most → Few (if c then a else b) most
+either : (c : Bool) {a b : List ℕ} {m most : ℕ} → Few a m → m ≤ most → Few b most → Few (when c then a else b) most
 either c {most = most} h l k = if-elim (λ t. Few t most) c (λ e. within h l) (λ e. k)
 
 -- words by themselves

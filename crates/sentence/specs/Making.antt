@@ -1,5 +1,5 @@
 -- How the code makes the text of a reason: no rule, but what its promises say.
-use Rattle.std.specs.Prelude.{ℕ, ◌-◌, List, ◌++◌, length, replicate}
+use Rattle.std.specs.Prelude.{ℕ, ◌-◌, ◌++◌, length, replicate}
 use Prim.Native.String.{String}
 use Rattle.text.specs.Characters.{bytes_of}
 use Rattle.sentence.specs.declared.Name.{Name}

@@ -2,7 +2,7 @@
 -- docs/REASONS.md's.
 use Rattle.std.specs.Prelude.{ℕ, Bool, ◌||◌, List, [], ◌∷◌, ◌++◌, eqb, get_or}
 use Prim.Native.String.{String}
-use Rattle.arrays.specs.Base.{if◌then◌else◌}
+use Rattle.arrays.specs.Base.{when◌then◌else◌}
 use Rattle.text.specs.Characters.{bytes_of}
 use Rattle.text.specs.Decimal.{decimal}
 use Rattle.answer.specs.Answers.{number_of}
@@ -52,7 +52,7 @@ abbrev pub has_nexus : (kind : ℕ) → Bool
 has_nexus kind = eqb kind 1 || eqb kind 2 || eqb kind 3 || eqb kind 6 || eqb kind 8 || eqb kind 11
 
 unfoldable pub nexus_words : (kind nexus : ℕ) → List ℕ
-nexus_words kind nexus = if has_nexus kind then words_and ", nexus " nexus else []
+nexus_words kind nexus = when has_nexus kind then words_and ", nexus " nexus else []
 
 -- "An event is told by its position .. and its kind", "followed by a comma and" its nexus
 unfoldable pub event_words : (position kind nexus : ℕ) → List ℕ
@@ -82,7 +82,7 @@ touch_words reason =
 
 -- "A block goes down clear under encryption mode 0, external under 1, encrypted under any other."
 unfoldable pub block_words : (mode : ℕ) → List ℕ
-block_words mode = if eqb mode 0 then bytes_of "clear" else if eqb mode 1 then bytes_of "external" else bytes_of "encrypted"
+block_words mode = when eqb mode 0 then bytes_of "clear" else when eqb mode 1 then bytes_of "external" else bytes_of "encrypted"
 
 -- answer 0
 unfoldable pub allowed_words : (mode place : ℕ) → List ℕ
@@ -95,19 +95,19 @@ unsupported_words mode place = words_and "the set in place " place ++ words_and 
 -- by the answer's number; no other number is a write's answer
 unfoldable pub sentence_by : (number : ℕ) → Reason → List ℕ
 sentence_by number reason =
-    if eqb number 0 then allowed_words reason.cause.mode reason.cause.touch.place
-    else if eqb number 1 then bytes_of "the device record is not well formed"
-    else if eqb number 2 then bytes_of "the drive has no nexus of that number"
-    else if eqb number 3 || eqb number 4 then bytes_of "a unit attention is pending: " ++ touch_words reason
-    else if eqb number 11 then bytes_of "the nexus is locked: " ++ touch_words reason
-    else if eqb number 12 then unsupported_words reason.cause.mode reason.cause.touch.place
+    when eqb number 0 then allowed_words reason.cause.mode reason.cause.touch.place
+    else when eqb number 1 then bytes_of "the device record is not well formed"
+    else when eqb number 2 then bytes_of "the drive has no nexus of that number"
+    else when eqb number 3 || eqb number 4 then bytes_of "a unit attention is pending: " ++ touch_words reason
+    else when eqb number 11 then bytes_of "the nexus is locked: " ++ touch_words reason
+    else when eqb number 12 then unsupported_words reason.cause.mode reason.cause.touch.place
     else bytes_of "the answer is not a write's"
 
 -- ---- the lines
 
 -- request 8: "for 11 the kind and position"
 unfoldable pub stopper_words : (number kind position : ℕ) → List ℕ
-stopper_words number kind position = if eqb number 11 then words_and " " kind ++ words_and " " position else []
+stopper_words number kind position = when eqb number 11 then words_and " " kind ++ words_and " " position else []
 
 -- "The first is the answer's number; for 11 a space, the kind and a space, the position of the event that is the reason."
 unfoldable pub first_line : (number kind position : ℕ) → List ℕ

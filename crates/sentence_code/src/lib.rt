@@ -1,4 +1,6 @@
 // Document 02, request 8: a reason told in two lines, as docs/REASONS.md has them.
+#![tactic(auto)]
+
 ghost use Rattle.std.specs.Prelude.{◌≡◌, ◌++◌, ◌+◌, ◌≤◌, length};
 ghost use Rattle.answer.specs.Answers.{number_of};
 ghost use Rattle.text.specs.Decimal.{decimal};

@@ -1,6 +1,6 @@
 -- A session from any record with words, whether it is well formed or not: its calls one after another.
 use Rattle.std.specs.Prelude.{ℕ, List, [], ◌∷◌}
-use Rattle.arrays.specs.Base.{if◌then◌else◌}
+use Rattle.arrays.specs.Base.{when◌then◌else◌}
 use Rattle.wire.specs.Parts.{joined}
 use Rattle.wire.specs.Buffers.{shown}
 use Rattle.answer.specs.declared.Answer.{Answer}
@@ -22,7 +22,7 @@ answer_bytes_of r calls = joined four_of (answers_of r calls)
 
 -- what a session gives, by its verdict: the record at the end, and each byte of the lent buffer
 abbrev pub record_after_of : Verdict → Worded → List Call → Worded
-record_after_of verdict r calls = if is_taken verdict then after_all r calls else r
+record_after_of verdict r calls = when is_taken verdict then after_all r calls else r
 
 abbrev pub buffer_after_of : Verdict → Worded → List Call → (buffer : List ℕ) → List ℕ
-buffer_after_of verdict r calls buffer = if is_taken verdict then shown (answer_bytes_of r calls) buffer else buffer
+buffer_after_of verdict r calls buffer = when is_taken verdict then shown (answer_bytes_of r calls) buffer else buffer

@@ -1,4 +1,5 @@
 // A recorded session run on the drive.
+#![tactic(auto)]
 
 // The bytes of an answer: number and sense.
 pub const ANSWER_SIZE: usize = 4;

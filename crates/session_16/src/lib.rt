@@ -1,4 +1,6 @@
 // A recorded session run on the drive of this model.
+#![tactic(auto)]
+
 ghost use Rattle.std.specs.Prelude.{◌≡◌};
 ghost use Rattle.std.proofs.lemmas.List.Edits.{sets};
 ghost use Rattle.wire.specs.Buffers.{shown};
@@ -17,7 +19,7 @@ use session::ANSWER_SIZE;
 use sizes_16::NEXUSES;
 
 // What a session gives: the record at the end, and its verdict.
-#[derive(Drop)]
+#[derive(Clone, Copy)]
 pub struct Ran {
     pub after: Record,
     pub verdict: Verdict,

@@ -1,4 +1,6 @@
 // The sizes of this model.
+#![tactic(auto)]
+
 pub const NEXUSES: usize = 16;
 
 pub const PLACES: usize = 5;

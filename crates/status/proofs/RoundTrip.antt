@@ -11,7 +11,7 @@ use lib.Dec.{lit≤, ltb}
 use lib.ListN.{length, drop, replicate, length-drop, take-append-drop, get_or-eq_default}
 use lib.Seq.{drop-drop, length-take-le}
 use Rattle.arrays.proofs.Base.{cases}
-use Rattle.wire.specs.Numbers.{byte_at, word_at, number, two}
+use Rattle.wire.specs.Numbers.{byte_at, word_at, two}
 use Rattle.wire.specs.Bits.{bits, bit_at}
 use Rattle.wire.specs.Rules.{length_wrong}
 use Rattle.wire.proofs.Numbers.{word_two, two-word, number-below, number-four, four-number}

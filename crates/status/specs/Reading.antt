@@ -1,7 +1,7 @@
 -- Document 01: "The status reader asks for 24 bytes at least and an exact length, else 7; then page code 0020h, fixed zeros zero,
 -- codes in range and descriptors formed as above (under any mode), else 8." Answer 8 carries the faulty byte (document 02, request 6).
 use Rattle.std.specs.Prelude.{ℕ, false, List, ltb, length, drop}
-use Rattle.arrays.specs.Base.{if◌then◌else◌}
+use Rattle.arrays.specs.Base.{when◌then◌else◌}
 use Rattle.wire.specs.Numbers.{byte_at, number_at}
 use Rattle.wire.specs.Rules.{length_wrong, breach}
 use Rattle.answer.specs.Answers.{sense_of}
@@ -56,6 +56,6 @@ read_of status = record { answer = Done; sense = sense_of Done; status = status 
 unfoldable pub read_status : List ℕ → StatusRead
 read_status p =
     let fault = breach (status_rules p) (length p) in
-    if length_wrong descriptors_from p then refused_status PageLengthWrong
-    else if ltb fault (length p) then refused_status (FieldWrong fault)
+    when length_wrong descriptors_from p then refused_status PageLengthWrong
+    else when ltb fault (length p) then refused_status (FieldWrong fault)
     else read_of (values p)

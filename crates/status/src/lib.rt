@@ -1,9 +1,11 @@
 // What the response pages hold, and what reading a status page gives: see specs/ and proofs/. This crate has no function.
+#![tactic(auto)]
+
 use answer::{Answer, Sense};
 use kad::Kads;
 
 // The status page's byte 4.
-#[derive(Drop)]
+#[derive(Clone, Copy)]
 pub struct StatusByte4 {
     pub nexus_scope: u8,
     pub zeros: u8,
@@ -11,7 +13,7 @@ pub struct StatusByte4 {
 }
 
 // The status page's byte 12.
-#[derive(Drop)]
+#[derive(Clone, Copy)]
 pub struct StatusByte12 {
     pub zeros: u8,
     pub ceems: u8,
@@ -19,7 +21,7 @@ pub struct StatusByte12 {
 }
 
 // What the status page tells.
-#[derive(Drop)]
+#[derive(Clone, Copy)]
 pub struct Status {
     pub nexus_scope: u8,
     pub set_scope: u8,
@@ -47,7 +49,7 @@ impl Status {
 }
 
 // What reading a status page gives: the answer, and the values (zeros where refused).
-#[derive(Drop)]
+#[derive(Clone, Copy)]
 pub struct StatusRead {
     pub answer: Answer,
     pub sense: Sense,

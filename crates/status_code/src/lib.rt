@@ -1,4 +1,6 @@
 // The pages that there are, the four response pages written, and the status page read.
+#![tactic(auto)]
+
 ghost use Rattle.std.specs.Prelude.{◌≡◌, ◌≤◌, ◌∷◌, ◌++◌, length};
 ghost use Rattle.wire.specs.Numbers.{two};
 ghost use Rattle.wire.specs.Buffers.{Shown};

@@ -1,6 +1,6 @@
 -- A command of the stream on this model: what is lent to it, and what it is replied.
 use Rattle.std.specs.Prelude.{ℕ, List, ltb, length, take, drop}
-use Rattle.arrays.specs.Base.{if◌then◌else◌}
+use Rattle.arrays.specs.Base.{when◌then◌else◌}
 use Rattle.device.specs.Words.{Worded}
 use Rattle.command.specs.Requests.{order_of, lent_size}
 use Rattle.command.specs.Replies.{reply_head_size, Replied, unknown_reply, replied}
@@ -31,4 +31,4 @@ lent_part order buffer = part_from (lent_from order) (lent_size order) buffer
 -- a buffer that has no room for every reply serves none: the command is answered as an unknown one
 unfoldable pub served : Worded → Request → (page buffer : List ℕ) → Replied
 served r request page buffer =
-    if ltb (length buffer) reply_most then unknown_reply r else replied r request page (lent_part (order_of request) buffer)
+    when ltb (length buffer) reply_most then unknown_reply r else replied r request page (lent_part (order_of request) buffer)

@@ -1,4 +1,6 @@
 // The drive of this model on docs/CONSOLE.md's stream: a command obeyed, and its reply.
+#![tactic(auto)]
+
 ghost use Rattle.std.specs.Prelude.{◌≤◌, length};
 ghost use Rattle.device_16.specs.Model.{worded};
 ghost use Rattle.command.specs.Requests.{lent_most, lent_size};

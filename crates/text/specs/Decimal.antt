@@ -1,6 +1,6 @@
 -- Numbers in decimal.
 use Rattle.std.specs.Prelude.{ℕ, zero, suc, ◌+◌, ◌*◌, ◌-◌, ◌/◌, ◌%◌, Bool, true, false, ◌&&◌, List, [], ◌∷◌, ◌++◌, leb, ltb, length}
-use Rattle.arrays.specs.Base.{if◌then◌else◌}
+use Rattle.arrays.specs.Base.{when◌then◌else◌}
 use Rattle.arrays.specs.Arrays.{all}
 use Rattle.text.specs.declared.Number.{Number}
 
@@ -44,7 +44,7 @@ abbrev pub read_most : ℕ
 read_most = 1000000000000000000
 
 abbrev pub at_most : (most n : ℕ) → ℕ
-at_most most n = if leb n most then n else most
+at_most most n = when leb n most then n else most
 
 abbrev pub number_told : List ℕ → Number
 number_told text = record { decimal = is_decimal text; value = at_most read_most (read_decimal text) }

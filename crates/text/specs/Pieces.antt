@@ -1,6 +1,6 @@
 -- A text cut at a character: its lines, the words of a line.
 use Rattle.std.specs.Prelude.{ℕ, Bool, not, List, [], ◌∷◌, map, eqb}
-use Rattle.arrays.specs.Base.{if◌then◌else◌}
+use Rattle.arrays.specs.Base.{when◌then◌else◌}
 use Rattle.arrays.specs.Arrays.{all}
 use Rattle.text.specs.Decimal.{read_decimal}
 
@@ -12,7 +12,7 @@ extended c (piece ∷ more) = (c ∷ piece) ∷ more
 -- what stands before, between and after the cuts
 unfoldable pub pieces : (cut : ℕ) → List ℕ → List (List ℕ)
 pieces cut [] = [] ∷ []
-pieces cut (c ∷ text) = if eqb c cut then [] ∷ pieces cut text else extended c (pieces cut text)
+pieces cut (c ∷ text) = when eqb c cut then [] ∷ pieces cut text else extended c (pieces cut text)
 
 -- a text without a cut
 abbrev pub is_whole : (cut : ℕ) → List ℕ → Bool

@@ -1,4 +1,5 @@
 // Text for a person: characters, numbers in decimal, and a few lines by value.
+#![tactic(auto)]
 
 // The character 0.
 pub const ZERO_DIGIT: u8 = 48;
@@ -10,7 +11,7 @@ pub const DIGITS_MOST: usize = 20;
 pub const READ_MOST: u64 = 1000000000000000000;
 
 // What a text reads as: whether it is digits alone, and its number.
-#[derive(Drop)]
+#[derive(Clone, Copy)]
 pub struct Number {
     pub decimal: bool,
     pub value: u64,
@@ -20,7 +21,7 @@ pub struct Number {
 pub const LINES_MOST: usize = 256;
 
 // A few lines, their first bytes; zeros after them.
-#[derive(Drop)]
+#[derive(Clone, Copy)]
 pub struct Lines {
     pub bytes: [u8; LINES_MOST],
     pub length: usize,

@@ -1,4 +1,6 @@
 // Numbers in decimal, written and read; lines made by value.
+#![tactic(auto)]
+
 ghost use Rattle.std.specs.Prelude.{◌≡◌, ◌+◌, ◌*◌, ◌-◌, ◌≤◌, ◌<◌, length};
 ghost use Rattle.std.proofs.lemmas.List.Edits.{sets};
 ghost use Rattle.text.specs.Decimal.{zero_digit, digit, decimal, is_digit, read_most, at_most, number_told};

@@ -8,7 +8,7 @@ use native.Mathlib.Omega.{arith}
 use borrow.Author.Tests.{eqb-true, eq-eqb, ne_eqb, not-true}
 use lib.Dec.{eqb}
 use lib.ListN.{length}
-use Rattle.arrays.specs.Base.{if◌then◌else◌}
+use Rattle.arrays.specs.Base.{when◌then◌else◌}
 use Rattle.arrays.proofs.Base.{cases, clash, if-true, if-false, if-elim, or-other, or_left_false, or_right_false}
 use Rattle.parameters.specs.Codes.{local_scope, all_scope}
 use Rattle.parameters.specs.declared.Fields.{Fields}
@@ -58,7 +58,7 @@ module _ (place : ℕ) (held : Bool) where
 
   -- one more
   more-acted : (l : List Action) (a : Action) (before : Deed)
-      → acted_from place held before (l ++ a ∷ []) ≡ if eqb place a.place then deed_by held (acted_from place held before l) a else acted_from place held before l
+      → acted_from place held before (l ++ a ∷ []) ≡ when eqb place a.place then deed_by held (acted_from place held before l) a else acted_from place held before l
   unfolding acted_from
   more-acted [] a before = refl
   more-acted (x ∷ l) a before = more-acted l a _
@@ -92,7 +92,7 @@ other-agree s place l a within f agree h =
     ap (deed_of (set_at s place)) same ∙ agree earlier ∙ sym (more-acted place (used (set_at s place)) l a Untouched ∙ if-false _ _ _ f)
 
 -- a LOCAL set in a place of its owner's, or an empty one
-free-deed : (old : Set) (m : ℕ) (fields : Fields) → (used old ≡ true → old.owner ≡ m) → deed_of old (established m local_scope 0 fields) ≡ if used old then Replaced else Established
+free-deed : (old : Set) (m : ℕ) (fields : Fields) → (used old ≡ true → old.owner ≡ m) → deed_of old (established m local_scope 0 fields) ≡ when used old then Replaced else Established
 free-deed old m fields mine =
     cases (empty old)
     (λ t. if-true _ _ _ t ∙ sym (if-false _ _ _ (ap not t)))

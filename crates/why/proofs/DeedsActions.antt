@@ -8,7 +8,7 @@ use native.Mathlib.Omega.{arith}
 use borrow.Author.Tests.{eqb-true, eq-eqb}
 use lib.Dec.{eqb}
 use lib.ListN.{length}
-use Rattle.arrays.specs.Base.{if◌then◌else◌}
+use Rattle.arrays.specs.Base.{when◌then◌else◌}
 use Rattle.arrays.proofs.Base.{cases, clash, if-true, if-false, if-elim, or-other, or_left_false, or_right_false}
 use Rattle.parameters.specs.Codes.{all_scope}
 use Rattle.parameters.specs.declared.Fields.{Fields}
@@ -93,9 +93,9 @@ pub releasing-deed : (old : Set) (l : List Action) (s : State) (place : ℕ) →
 releasing-deed old l s place r within h = if-true _ _ _ (releasing-empty l s place r within h)
 
 -- an ALL set replaced what it held, or is the first
-pub shared-deed : (old : Set) (m number : ℕ) (fields : Fields) → deed_of old (established m all_scope number fields) ≡ if used old then Replaced else Established
+pub shared-deed : (old : Set) (m number : ℕ) (fields : Fields) → deed_of old (established m all_scope number fields) ≡ when used old then Replaced else Established
 shared-deed old m number fields =
-    if-elim (λ x. x ≡ if used old then Replaced else Established) (empty old) (λ t. sym (if-false _ _ _ (ap not t))) (λ f. sym (if-true _ _ _ (ap not f)))
+    if-elim (λ x. x ≡ when used old then Replaced else Established) (empty old) (λ t. sym (if-false _ _ _ (ap not t))) (λ f. sym (if-true _ _ _ (ap not f)))
 
 -- ---- the deeds told apart
 

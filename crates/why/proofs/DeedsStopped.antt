@@ -8,7 +8,7 @@ use native.Mathlib.Omega.{arith}
 use borrow.Author.Tests.{eqb-true, eqb-false}
 use lib.Dec.{eqb}
 use lib.ListN.{length}
-use Rattle.arrays.specs.Base.{if◌then◌else◌}
+use Rattle.arrays.specs.Base.{when◌then◌else◌}
 use Rattle.arrays.proofs.Base.{cases, clash, if-true, if-false, if-elim, or-other}
 use Rattle.parameters.specs.Codes.{local_scope, all_scope}
 use Rattle.parameters.specs.declared.Fields.{Fields}
@@ -86,9 +86,9 @@ deed-of s n call e place same at = ap₂ (λ x k. deed_of (set_at s k) (set_at (
 
 -- what an ALL page did to place 0
 all-deed : (s : State) (l : List Action) (m : ℕ) (fields : Fields) → 0 < length s.sets
-    → deed_of (set_at s 0) (set_at (acts s (l ++ establish 0 m all_scope fields ∷ [])) 0) ≡ if used (set_at s 0) then Replaced else Established
+    → deed_of (set_at s 0) (set_at (acts s (l ++ establish 0 m all_scope fields ∷ [])) 0) ≡ when used (set_at s 0) then Replaced else Established
 all-deed s l m fields some =
-    last_set (λ x. deed_of (set_at s 0) x ≡ if used (set_at s 0) then Replaced else Established) l (establish 0 m all_scope fields) s 0 some refl
+    last_set (λ x. deed_of (set_at s 0) x ≡ when used (set_at s 0) then Replaced else Established) l (establish 0 m all_scope fields) s 0 some refl
     (λ number. shared-deed (set_at s 0) m number fields)
 
 -- an effect that isn't the nexus's own page
@@ -122,6 +122,6 @@ stopped_by s n call w some locked = stopped s w n some locked call (effect s cal
 pub never-evicted : (s : State) (n : ℕ) (call : Call) → StoppedBy s n call → deed_to s n call ≡ Evicted → ⊥
 never-evicted s n call (released event same d) e = let z : ◌≡◌ {A = ℕ} 4 3 = ap rank (sym d ∙ e) in omega (arith, z)
 never-evicted s n call (replaced m page same ne scope fresh first d) e =
-    let low : rank (if used (set_at s 0) then Replaced else Established) < 3 = if-elim (λ x. rank x < 3) (used (set_at s 0)) (λ t. omega arith) (λ f. omega arith) in
-    let z : rank (if used (set_at s 0) then Replaced else Established) ≡ 3 = ap rank (sym d ∙ e) in
+    let low : rank (when used (set_at s 0) then Replaced else Established) < 3 = if-elim (λ x. rank x < 3) (used (set_at s 0)) (λ t. omega arith) (λ f. omega arith) in
+    let z : rank (when used (set_at s 0) then Replaced else Established) ≡ 3 = ap rank (sym d ∙ e) in
     omega (arith, low, z)

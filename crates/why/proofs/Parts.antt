@@ -10,7 +10,7 @@ use borrow.Author.Tests.{eqb-true}
 use lib.Dec.{eqb}
 use lib.ListN.{length, take, length-append}
 use lib.Seq.{take-append-add, take-take, length-take-le}
-use Rattle.arrays.specs.Base.{if◌then◌else◌}
+use Rattle.arrays.specs.Base.{when◌then◌else◌}
 use Rattle.arrays.proofs.Base.{cases, clash, and_left, if-true, if-false, if-map}
 use Rattle.wire.proofs.Bytes.{Below}
 use Rattle.answer.specs.Answers.{number_of}
@@ -54,7 +54,7 @@ first-moved : (k place i : ℕ) (l : List Did) → first_touched place (k + i) l
 unfolding first_touched
 first-moved k place i [] = refl
 first-moved k place i (d ∷ l) =
-    ap (λ f. if hits place d.actions then At (k + i) else f) (ap (λ j. first_touched place j l) (sym (add-suc k i)) ∙ first-moved k place (suc i) l)
+    ap (λ f. when hits place d.actions then At (k + i) else f) (ap (λ j. first_touched place j l) (sym (add-suc k i)) ∙ first-moved k place (suc i) l)
     ∙ sym (if-map (later_found k) (hits place d.actions) (At i) (first_touched place (suc i) l))
 
 -- the reading of a history
@@ -99,7 +99,7 @@ touch-told k number place first another vendor {first'} {another'} {vendor'} p q
     picks (eqb number 11) (eqb number 3) (eqb number 4) (eqb number 0 || eqb number 12) (λ t. p (eqb-true number 11 t)) (λ t. q (eqb-true number 3 t)) (λ t. r (eqb-true number 4 t))
   where
     pick : (a b c d : Bool) → (x y z : Touch) → Touch
-    pick a b c d x y z = if a then x else if b then y else if c then z else if d then standing place else untouched
+    pick a b c d x y z = when a then x else when b then y else when c then z else when d then standing place else untouched
 
     picks : (a b c d : Bool) → (a ≡ true → first' ≡ later_touch k first) → (b ≡ true → another' ≡ later_touch k another) → (c ≡ true → vendor' ≡ later_touch k vendor)
         → pick a b c d first' another' vendor' ≡ later_touch k (pick a b c d first another vendor)

@@ -10,7 +10,7 @@ use borrow.Author.Tests.{eqb-true, eq-eqb, ne_eqb, le-leb, leb-true, leb-false, 
 use lib.Dec.{eqb, leb}
 use lib.ListN.{length, take, drop}
 use lib.Seq.{take-suc, take-length, length-take-le, split_at}
-use Rattle.arrays.specs.Base.{if◌then◌else◌}
+use Rattle.arrays.specs.Base.{when◌then◌else◌}
 use Rattle.arrays.proofs.Base.{cases, clash, and_left, and_right, if-true, if-false}
 use Rattle.answer.specs.Answers.{number_of, is_done}
 use Rattle.answer.specs.declared.Answer.{Answer}
@@ -51,7 +51,7 @@ use Rattle.why.proofs.DeedsRaised.{another-touches, vendor-touches}
 -- whether a check with that number found one, of checks that are each told as what it found and its answer
 abbrev fault_of : (k : ℕ) → List (Bool × Answer) → Bool
 fault_of k [] = false
-fault_of k (c ∷ more) = if eqb (number_of c.1) k then fault_of k more || c.0 else fault_of k more
+fault_of k (c ∷ more) = when eqb (number_of c.1) k then fault_of k more || c.0 else fault_of k more
 
 -- their answers
 abbrev answers_of : List (Bool × Answer) → List Answer
@@ -72,7 +72,7 @@ fault-found k some ((true, a) ∷ l) e =
     or-true false = refl
 fault-found k some ((false, a) ∷ l) e = either (eqb (number_of a) k) (fault_of k l) (fault-found k some l e)
   where
-    either : (b c : Bool) → c ≡ true → (if b then c || false else c) ≡ true
+    either : (b c : Bool) → c ≡ true → (when b then c || false else c) ≡ true
     either true true t = refl
     either true false t = t
     either false c t = t

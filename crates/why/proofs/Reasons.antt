@@ -6,7 +6,7 @@ use mathlib.Core.Bool.{Bool, true, false}
 use mathlib.Core.List.{List}
 use lib.ListN.{take}
 use borrow.Author.Tests.{le-leb, lt-leb}
-use Rattle.arrays.specs.Base.{if◌then◌else◌}
+use Rattle.arrays.specs.Base.{when◌then◌else◌}
 use Rattle.recording.specs.Files.{header, event_bytes, sound_file, calls_of}
 use Rattle.recording.specs.Verdicts.{is_taken}
 use Rattle.recording.specs.declared.Verdict.{Verdict}
@@ -17,10 +17,10 @@ use Rattle.why.specs.Reasons.{why_verdict, no_reason, reason_by, why}
 module _ (nexuses places : ℕ) (file : List ℕ) (events n : ℕ) (supported : Bool) where
   -- the reason with that verdict
   by-verdict : (v : Verdict) → why_verdict file events ≡ v
-      → (if is_taken v then reason_by (event_bytes file) (cause_of nexuses places n supported (take events (calls_of file))) else no_reason v) ≡ why nexuses places file events n supported
+      → (when is_taken v then reason_by (event_bytes file) (cause_of nexuses places n supported (take events (calls_of file))) else no_reason v) ≡ why nexuses places file events n supported
   unfolding why
   by-verdict v e =
-      ap (λ w. if is_taken w then reason_by (event_bytes file) (cause_of nexuses places n supported (take events (calls_of file))) else no_reason w) (sym e)
+      ap (λ w. when is_taken w then reason_by (event_bytes file) (cause_of nexuses places n supported (take events (calls_of file))) else no_reason w) (sym e)
 
   -- 22 comes first
   pub why-wrong : sound_file file ≡ false → no_reason RecordingWrong ≡ why nexuses places file events n supported

@@ -1,7 +1,7 @@
 -- A session read for one nexus as the code reads it, by the numbers of places, is what the definitions read, which look at none.
 -- Assumes nothing.
 use Prim.Native.Nat.{ℕ, suc, ◌+◌, ◌*◌, ◌≤◌, ◌<◌, ◌^◌}
-use mathlib.Core.Path.{◌≡◌, refl, sym, ap, ap₂, subst, ◌∙◌}
+use mathlib.Core.Path.{◌≡◌, refl, sym, ap, ap₂, ◌∙◌}
 use mathlib.Core.Bool.{Bool, true, false, not, ◌&&◌}
 use mathlib.Core.List.{List, [], ◌∷◌, ◌++◌, append_assoc}
 use native.Mathlib.Omega.{arith}
@@ -9,7 +9,7 @@ use native.Mathlib.Nat.{mul-le-mul_left}
 use lib.Dec.{eqb}
 use lib.ListN.{length, take, length-append}
 use lib.Seq.{take_at}
-use Rattle.arrays.specs.Base.{if◌then◌else◌}
+use Rattle.arrays.specs.Base.{when◌then◌else◌}
 use Rattle.arrays.proofs.Base.{cases, if-true, if-false}
 use Rattle.device.specs.Record.{State, power_on, set_at}
 use Rattle.device.specs.Selecting.{selected, selected_set}
@@ -73,7 +73,7 @@ module _ (nexuses places n : ℕ) where
 
     -- a flag that it raises is noted
     flag-noted : (flag : Marks → Bool) (f : Found) {t : Touch} → t ≡ touch_found nexuses places calls f (used_at calls)
-        → (if is_raised flag n s (after s call) then touch_by i s (after s call) (selected s n) else t) ≡ touch_found nexuses places calls (raises flag n i s call f) (used_at calls)
+        → (when is_raised flag n s (after s call) then touch_by i s (after s call) (selected s n) else t) ≡ touch_found nexuses places calls (raises flag n i s call f) (used_at calls)
     flag-noted flag f e =
         cases (is_raised flag n s (after s call))
         (λ t. if-true _ _ _ t ∙ sym (touch-here (λ k. selected s n)) ∙ again ∙ ap (λ g. touch_found nexuses places calls g (used_at calls)) (sym (if-true _ _ _ t)))
@@ -84,7 +84,7 @@ module _ (nexuses places n : ℕ) where
 
     -- the first call that acts on the place is noted
     first-noted : (left : ℕ) (f : Found) {t : Touch} {hit : Bool} → t ≡ touch_found nexuses places calls f (λ k. left) → hit ≡ hits left (actions s call)
-        → first_noted t hit (touch_by i s (after s call) left) ≡ touch_found nexuses places calls (earlier f (if hits left (actions s call) then At i else Nowhere)) (λ k. left)
+        → first_noted t hit (touch_by i s (after s call) left) ≡ touch_found nexuses places calls (earlier f (when hits left (actions s call) then At i else Nowhere)) (λ k. left)
     first-noted left (At j) {hit = hit} e h = ap (λ (x : Touch). first_noted x hit (touch_by i s (after s call) left)) e ∙ if-false (hit && false) _ _ (never hit)
       where
         never : (b : Bool) → (b && false) ≡ false
@@ -95,7 +95,7 @@ module _ (nexuses places n : ℕ) where
         ap₂ (λ (x : Touch) (b : Bool). first_noted x b (touch_by i s (after s call) left)) e h
         ∙ either hit-now
       where
-        either : (b : Bool) → first_noted untouched b (touch_by i s (after s call) left) ≡ touch_found nexuses places calls (earlier Nowhere (if b then At i else Nowhere)) (λ k. left)
+        either : (b : Bool) → first_noted untouched b (touch_by i s (after s call) left) ≡ touch_found nexuses places calls (earlier Nowhere (when b then At i else Nowhere)) (λ k. left)
         either true = sym (touch-here (λ k. left))
         either false = refl
 

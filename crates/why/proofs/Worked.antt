@@ -116,7 +116,7 @@ table =
     -- "after 22 and before 2": the nexus is asked last
     ∷ asks p7 4 16 above
     ∷ asks p7 0 255 above
-    -- the flag was raised by nexus 6's page, and again by nexus 7's; the first call that by_touch the set stays the first
+    -- the flag was raised by nexus 6's page, and again by nexus 7's; the first call that touched the set stays the first
     ∷ asks p8 2 5 (by_use Done 0 0)
     ∷ asks p8 3 5 (by_touch ChangedByAnotherNexus 2 2 6 0 Established)
     ∷ asks p8 4 5 (by_touch KeyInstanceChanged 2 2 6 0 Established)
@@ -124,7 +124,7 @@ table =
     ∷ asks p8 6 5 (by_touch KeyInstanceChanged 2 2 6 0 Established)
     ∷ asks p8 6 6 (by_touch ChangedByAnotherNexus 4 2 7 0 Replaced)
     ∷ asks p8 6 7 (by_use Done 0 2)
-    -- not the event that raised the flag, but the one that by_touch the set
+    -- not the event that raised the flag, but the one that touched the set
     ∷ asks untold 3 3 (by_touch KeyInstanceChanged 2 5 0 1 Released)
     ∷ asks untold 5 3 (by_touch ChangedByAnotherNexus 4 2 6 0 Established)
     ∷ asks untold 6 3 (by_touch KeyInstanceChanged 2 5 0 1 Released)

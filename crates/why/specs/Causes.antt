@@ -2,7 +2,7 @@
 -- position of the first call after the lock that established, replaced or released the set in use". Here of the calls since power-on,
 -- where there are that many nexuses and places; no instance number is looked at.
 use Rattle.std.specs.Prelude.{ℕ, suc, Bool, not, ◌&&◌, ◌||◌, List, eqb, take}
-use Rattle.arrays.specs.Base.{if◌then◌else◌}
+use Rattle.arrays.specs.Base.{when◌then◌else◌}
 use Rattle.answer.specs.Answers.{number_of}
 use Rattle.answer.specs.declared.Answer.{Answer}
 use Rattle.device.specs.Record.{State, power_on, nexus_at}
@@ -25,21 +25,21 @@ abbrev pub is_raised : (flag : Marks → Bool) → ℕ → (s t : State) → Boo
 is_raised flag n s t = flag (nexus_at t n).marks && not (flag (nexus_at s n).marks)
 
 abbrev pub raises : (flag : Marks → Bool) → (n i : ℕ) → State → Call → Found → Found
-raises flag n i s call found = if is_raised flag n s (after s call) then At i else found
+raises flag n i s call found = when is_raised flag n s (after s call) then At i else found
 
 -- which of them answers a write: for 11 the call that touched the set, for 3 and 4 the one that raised the flag, for 0 and 12 the set in
 -- use; 1 and 2 have none
 abbrev pub touch_for : (number : ℕ) → (first another vendor used : Touch) → Touch
 touch_for number first another vendor used =
-    if eqb number 11 then first
-    else if eqb number 3 then another
-    else if eqb number 4 then vendor
-    else if eqb number 0 || eqb number 12 then used
+    when eqb number 11 then first
+    else when eqb number 3 then another
+    else when eqb number 4 then vendor
+    else when eqb number 0 || eqb number 12 then used
     else untouched
 
 -- the mode of the set in use, for 0 and 12
 abbrev pub mode_for : (number mode : ℕ) → ℕ
-mode_for number mode = if eqb number 0 || eqb number 12 then mode else 0
+mode_for number mode = when eqb number 0 || eqb number 12 then mode else 0
 
 -- a write with that answer
 abbrev pub cause_by : Answer → (first another vendor : Touch) → (place mode : ℕ) → Cause

@@ -1,7 +1,7 @@
 -- Document 01's words for what a call's actions do to a place, and what is claimed of the calls that `cause_of` names: which of them can
 -- touch the set that a locked nexus uses, and which can raise a flag.
 use Rattle.std.specs.Prelude.{ℕ, ◌≡◌, Bool, true, false, not, List, [], ◌∷◌, eqb}
-use Rattle.arrays.specs.Base.{if◌then◌else◌}
+use Rattle.arrays.specs.Base.{when◌then◌else◌}
 use Rattle.parameters.specs.Codes.{all_scope}
 use Rattle.page.specs.declared.Page.{Page}
 use Rattle.device.specs.Record.{State, set_at, nexus_at, empty, used}
@@ -31,15 +31,15 @@ is_released Released = true
 -- place held before the call, if any
 abbrev pub deed_by : (held : Bool) → (before : Deed) → Action → Deed
 deed_by held before a =
-    if empty a.contents then Released
-    else if is_released before then Evicted
-    else if held then Replaced
+    when empty a.contents then Released
+    else when is_released before then Evicted
+    else when held then Replaced
     else Established
 
 -- the actions in their order, where earlier ones did that
 unfoldable pub acted_from : (place : ℕ) → (held : Bool) → (before : Deed) → List Action → Deed
 acted_from place held before [] = before
-acted_from place held before (a ∷ more) = acted_from place held (if eqb place a.place then deed_by held before a else before) more
+acted_from place held before (a ∷ more) = acted_from place held (when eqb place a.place then deed_by held before a else before) more
 
 -- all of a call's, where the place held a set before it or did not
 abbrev pub acted_deed : (place : ℕ) → (held : Bool) → List Action → Deed
@@ -55,7 +55,7 @@ deed_to s n call = deed_of (selected_set s n) (set_at (after s call) (selected s
 pub data StoppedBy (s : State) (n : ℕ) (call : Call) : Type 0 where
   released : (event : Event) → effect s call ≡ releasing event → deed_to s n call ≡ Released → StoppedBy s n call
   replaced : (m : ℕ) (page : Page) → effect s call ≡ takes m page → (m ≡ n → ⊥) → page.scope ≡ all_scope → page.supplemental ≡ false
-      → selected s n ≡ 0 → deed_to s n call ≡ (if used (set_at s 0) then Replaced else Established) → StoppedBy s n call
+      → selected s n ≡ 0 → deed_to s n call ≡ (when used (set_at s 0) then Replaced else Established) → StoppedBy s n call
 
 -- ---- what raises a flag
 

@@ -1,6 +1,6 @@
 -- Document 02, request 8: the reason from a recorded session, where there are that many nexuses and places.
 use Rattle.std.specs.Prelude.{ℕ, ◌*◌, Bool, List, [], leb, take, drop}
-use Rattle.arrays.specs.Base.{if◌then◌else◌}
+use Rattle.arrays.specs.Base.{when◌then◌else◌}
 use Rattle.answer.specs.declared.Answer.TheVariants as answers
 use Rattle.device.specs.declared.Found.{Found}
 use Rattle.device.specs.declared.Found.TheVariants.{At, Nowhere}
@@ -17,7 +17,7 @@ use Rattle.why.specs.Causes.{cause_of}
 
 -- "a number above the event count gets 19, after 22 and before 2"
 unfoldable pub why_verdict : (file : List ℕ) → (events : ℕ) → Verdict
-why_verdict file events = if sound_file file then if leb events (header file).event_count then Done else EventsAbove else RecordingWrong
+why_verdict file events = when sound_file file then when leb events (header file).event_count then Done else EventsAbove else RecordingWrong
 
 -- the event at a position, as it is recorded; zeros where there is none
 abbrev pub event_at : (events : List ℕ) → Found → Entry
@@ -40,5 +40,5 @@ no_reason verdict = record { verdict = verdict; cause = no_cause; kind = 0; nexu
 unfoldable pub why : (nexuses places : ℕ) (file : List ℕ) (events n : ℕ) (supported : Bool) → Reason
 why nexuses places file events n supported =
     let verdict = why_verdict file events in
-    if is_taken verdict then reason_by (event_bytes file) (cause_of nexuses places n supported (take events (calls_of file)))
+    when is_taken verdict then reason_by (event_bytes file) (cause_of nexuses places n supported (take events (calls_of file)))
     else no_reason verdict

@@ -1,6 +1,6 @@
 -- What a call did to the set in a place: read from what the place held before and holds after, never from a number.
 use Rattle.std.specs.Prelude.{ℕ, Bool, not, ◌&&◌, eqb}
-use Rattle.arrays.specs.Base.{if◌then◌else◌}
+use Rattle.arrays.specs.Base.{when◌then◌else◌}
 use Rattle.parameters.specs.Codes.{local_scope}
 use Rattle.device.specs.Record.{State, set_at, empty}
 use Rattle.device.specs.declared.Set.{Set}
@@ -17,9 +17,9 @@ takes_over old new = eqb new.scope local_scope && not (eqb old.owner new.owner)
 -- stands there now; else replaced
 abbrev pub deed_of : (old new : Set) → Deed
 deed_of old new =
-    if empty new then Released
-    else if empty old then Established
-    else if takes_over old new then Evicted
+    when empty new then Released
+    else when empty old then Established
+    else when takes_over old new then Evicted
     else Replaced
 
 abbrev pub untouched : Touch

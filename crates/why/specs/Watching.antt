@@ -1,7 +1,7 @@
 -- How the code reads a session for one nexus: no rule, but what its promises say. Whether a call acted on a place is seen by the place's
 -- instance number; proofs/Same shows that this is what the definitions read, which look at none.
-use Rattle.std.specs.Prelude.{ℕ, Bool, not, ◌&&◌, List, eqb}
-use Rattle.arrays.specs.Base.{if◌then◌else◌}
+use Rattle.std.specs.Prelude.{ℕ, Bool, not, ◌&&◌, eqb}
+use Rattle.arrays.specs.Base.{when◌then◌else◌}
 use Rattle.answer.specs.declared.Answer.{Answer}
 use Rattle.device.specs.Record.{State, set_at}
 use Rattle.device.specs.Selecting.{selected}
@@ -21,13 +21,13 @@ renewed power s t place = not power && not (eqb (set_at s place).number (set_at 
 
 -- the first touch stays; any other is the first if there was none
 abbrev pub first_noted : (first : Touch) → (hit : Bool) → Touch → Touch
-first_noted first hit touch = if hit && not (is_found first.at) then touch else first
+first_noted first hit touch = when hit && not (is_found first.at) then touch else first
 
 -- a call that made record t of record s: the lock, the nexus's own page, sets the reading anew
 abbrev pub locked_by : (lock power : Bool) → (n i : ℕ) → (s t : State) → Watch → Watch
 locked_by lock power n i s t w = record {
-  left = if lock then selected t n else w.left;
-  first = if lock then untouched else first_noted w.first (renewed power s t w.left) (touch_by i s t w.left);
+  left = when lock then selected t n else w.left;
+  first = when lock then untouched else first_noted w.first (renewed power s t w.left) (touch_by i s t w.left);
   another = w.another;
   vendor = w.vendor;
 }
@@ -39,8 +39,8 @@ flagged_by n i s t w =
     record {
       left = w.left;
       first = w.first;
-      another = if is_raised (λ m. m.another) n s t then used else w.another;
-      vendor = if is_raised (λ m. m.vendor) n s t then used else w.vendor;
+      another = when is_raised (λ m. m.another) n s t then used else w.another;
+      vendor = when is_raised (λ m. m.vendor) n s t then used else w.vendor;
     }
 
 abbrev pub watched_by : (lock power : Bool) → (n i : ℕ) → (s t : State) → Watch → Watch

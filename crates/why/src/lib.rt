@@ -1,10 +1,12 @@
 // Document 02, request 8: why a nexus's next write is stopped.
+#![tactic(auto)]
+
 use answer::Answer;
 use device::Found;
 use recording::Verdict;
 
 // What a call did to the set in a place.
-#[derive(Drop)]
+#[derive(Clone, Copy)]
 pub enum Deed {
     Untouched,
     Established,
@@ -14,7 +16,7 @@ pub enum Deed {
 }
 
 // A call that touched a set: its position, the place, and what it did there.
-#[derive(Drop)]
+#[derive(Clone, Copy)]
 pub struct Touch {
     pub at: Found,
     pub place: usize,
@@ -31,7 +33,7 @@ impl Touch {
 
 // A session read for one nexus: the place whose set its latest page left it using, the first later call that touched that set, and the
 // latest calls that raised its two flags.
-#[derive(Drop)]
+#[derive(Clone, Copy)]
 pub struct Watch {
     pub left: usize,
     pub first: Touch,
@@ -49,7 +51,7 @@ impl Watch {
 }
 
 // How a write is answered, the touch that is the reason (with no position, the set in use), and that set's encryption mode.
-#[derive(Drop)]
+#[derive(Clone, Copy)]
 pub struct Cause {
     pub answer: Answer,
     pub touch: Touch,
@@ -57,7 +59,7 @@ pub struct Cause {
 }
 
 // The same of a recording, with the kind and the nexus that it has at the touch's position.
-#[derive(Drop)]
+#[derive(Clone, Copy)]
 pub struct Reason {
     pub verdict: Verdict,
     pub cause: Cause,

@@ -1,4 +1,6 @@
 // Why a write is stopped on the drive of this model: a recorded session read once, for one nexus.
+#![tactic(auto)]
+
 ghost use Rattle.std.specs.Prelude.{◌≡◌, ◌<◌, length};
 ghost use Rattle.sizes_16.specs.Sizes.{nexus_count, place_count};
 ghost use Rattle.device.specs.Record.{set_at};
@@ -25,7 +27,7 @@ use sizes_16::{NEXUSES, PLACES};
 use why::{Cause, Deed, Reason, Touch, Watch};
 
 // A session read for one nexus, and the record at its end.
-#[derive(Drop)]
+#[derive(Clone, Copy)]
 pub struct Followed {
     pub after: Record,
     pub watch: Watch,

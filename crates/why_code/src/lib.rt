@@ -1,6 +1,8 @@
 // What a call did to the set in a place, and which touch answers a write.
+#![tactic(auto)]
+
 ghost use Rattle.std.specs.Prelude.{◌≡◌};
-ghost use Rattle.arrays.specs.Base.{if◌then◌else◌};
+ghost use Rattle.arrays.specs.Base.{when◌then◌else◌};
 ghost use Rattle.device.specs.declared.Found.TheVariants.{At};
 ghost use Rattle.history.specs.History.{is_found};
 ghost use Rattle.why.specs.Touches.{deed_of, standing};
@@ -40,7 +42,7 @@ fn is_found(found: Found) -> bool
 
 // One of two.
 pub fn either(test: bool, touch: Touch, other: Touch) -> Touch
-    ensures { result ≡ if test then touch else other }
+    ensures { result ≡ when test then touch else other }
 {
     if test { touch } else { other }
 }

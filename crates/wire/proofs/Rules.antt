@@ -6,13 +6,13 @@ use mathlib.Core.Logic.{◌⊎◌, inl, inr, ⊎_elim}
 use mathlib.Core.List.{List, [], ◌∷◌, ◌++◌}
 use Prim.Native.Nat.{ℕ, zero, suc, ◌+◌, ◌<◌, ◌≤◌}
 use native.Mathlib.Omega.{arith}
-use native.Mathlib.Nat.{not-le_of_lt, le_refl, le_trans, add-zero, add-suc, suc-add}
+use native.Mathlib.Nat.{not-le_of_lt, le_refl, le_trans, add-zero, add-suc}
 use native.Mathlib.Numerals.{add-one}
 use borrow.Author.Tests.{eq-eqb, ne_eqb}
 use lib.Dec.{eqb}
 use lib.ListN.{length, drop, get_or}
 use lib.Seq.{drop-cons}
-use Rattle.arrays.specs.Base.{if◌then◌else◌}
+use Rattle.arrays.specs.Base.{when◌then◌else◌}
 use Rattle.arrays.proofs.Base.{cases, clash, both, if-elim, if-map}
 use Rattle.arrays.proofs.Laws.{all_cons}
 use Rattle.wire.specs.Buffers.{all_zero}
@@ -174,7 +174,7 @@ sorted-append (r ∷ xs) ys m n s u l t = (s.0, sorted-append xs ys r.at n s.1 u
 -- the rules that point to byte i hold
 abbrev pub held_at : ℕ → List Rule → Bool
 held_at i [] = true
-held_at i (r ∷ rules) = if eqb r.at i then r.holds && held_at i rules else held_at i rules
+held_at i (r ∷ rules) = when eqb r.at i then r.holds && held_at i rules else held_at i rules
 
 -- they do where all rules hold
 pub held-at : (i : ℕ) (rules : List Rule) → AllHold rules → held_at i rules ≡ true
@@ -200,7 +200,9 @@ broken-at i (r ∷ rules) b =
 -- they point below the byte after the last
 pub zeros-under : (i : ℕ) (bytes : List ℕ) → Under (i + length bytes) (zero_rules i bytes)
 zeros-under i [] = tt
-zeros-under i (b ∷ bytes) = (omega arith, rw (add-suc, ← suc-add) (zeros-under (suc i) bytes))
+zeros-under i (b ∷ bytes) =
+    let more : suc i + length bytes ≡ i + length (b ∷ bytes) = omega arith in
+    (omega arith, subst (λ (n : ℕ). Under n (zero_rules (suc i) bytes)) more (zeros-under (suc i) bytes))
 
 -- and stand in order
 pub zeros-sorted : (m i : ℕ) (bytes : List ℕ) → m ≤ i → Sorted m (zero_rules i bytes)

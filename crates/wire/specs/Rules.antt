@@ -1,6 +1,6 @@
 -- Rules of pages.
 use Rattle.std.specs.Prelude.{ℕ, suc, ◌+◌, ◌≤◌, ◌≡◌, Bool, false, not, ◌||◌, ◌⊎◌, List, [], ◌∷◌, ltb, eqb, length}
-use Rattle.arrays.specs.Base.{if◌then◌else◌}
+use Rattle.arrays.specs.Base.{when◌then◌else◌}
 use Rattle.wire.specs.Numbers.{word_at}
 
 -- a page's bytes 2–3 are "the count of bytes after byte 3": it has fewer bytes than the least, or not as many as it says
@@ -23,7 +23,7 @@ rule i ok = record { at = i; holds = ok }
 -- the byte of the first rule that breaks; top where none does
 abbrev pub breach : List Rule → ℕ → ℕ
 breach [] top = top
-breach (r ∷ rs) top = if r.holds then breach rs top else r.at
+breach (r ∷ rs) top = when r.holds then breach rs top else r.at
 
 -- a rule that points to byte i breaks
 abbrev pub BreaksAt : ℕ → List Rule → Type 0

@@ -1,1 +1,2 @@
 // Bytes: big-endian numbers, bits, stores into a lent buffer, rules of pages.
+#![tactic(auto)]

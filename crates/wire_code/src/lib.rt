@@ -1,4 +1,6 @@
 // Bytes: big-endian numbers, stores into a lent buffer, runs of zeros.
+#![tactic(auto)]
+
 ghost use Rattle.std.specs.Prelude.{◌≡◌, ◌<◌, length, take, drop};
 ghost use Rattle.std.proofs.lemmas.List.Edits.{sets};
 ghost use Rattle.wire.specs.Numbers.{byte_at, word, number, word_at, number_at, two, four, wide, eight};

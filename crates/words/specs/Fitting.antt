@@ -1,7 +1,7 @@
 -- The test that check 1 makes of a record with words: by the owners of the places (proofs/Fitting: "formed-tested").
 use Rattle.std.specs.Prelude.{ℕ, ◌*◌, ◌%◌, ◌^◌, Bool, true, ◌&&◌, ◌||◌, List, eqb, length, get_or}
 use Rattle.std.specs.Int.Bits.{bit_and, bit_or, bit_xor}
-use Rattle.arrays.specs.Base.{if◌then◌else◌}
+use Rattle.arrays.specs.Base.{when◌then◌else◌}
 use Rattle.arrays.specs.Arrays.{each, runs, word_of}
 use Rattle.parameters.specs.Codes.{public_scope, local_scope, all_scope}
 use Rattle.device.specs.Record.{no_set, used}
@@ -12,7 +12,7 @@ use Rattle.words.specs.declared.Held.{Held}
 
 -- the bit of a place's owner: the scope of a used place other than 0 is 1
 abbrev pub owner_bit : ℕ → Set → ℕ
-owner_bit place set = if eqb place 0 then 0 else set.scope * 2 ^ (set.owner % 64) % 2 ^ 64
+owner_bit place set = when eqb place 0 then 0 else set.scope * 2 ^ (set.owner % 64) % 2 ^ 64
 
 abbrev pub nothing_held : Held
 nothing_held = record { word = 0; fits = true }

@@ -1,4 +1,6 @@
 // The words of this model's record, and check 1.
+#![tactic(auto)]
+
 ghost use Rattle.std.specs.Prelude.{◌≡◌, ◌-◌, ◌^◌};
 ghost use Rattle.arrays.specs.Arrays.{word_of};
 ghost use Rattle.device.specs.Record.{power_on};

@@ -1,7 +1,9 @@
 // Words of the nexuses that select a place: what is done with one set, one word or one bit.
+#![tactic(auto)]
+
 ghost use Rattle.std.specs.Prelude.{◌≡◌};
 ghost use Rattle.std.specs.Int.Bits.{bit_or, bit_xor};
-ghost use Rattle.arrays.specs.Base.{if◌then◌else◌};
+ghost use Rattle.arrays.specs.Base.{when◌then◌else◌};
 ghost use Rattle.words.specs.Placing.{local_bit};
 ghost use Rattle.words.specs.Fitting.{owner_bit, held_with, nexus_fits};
 
@@ -51,7 +53,7 @@ pub fn nexus_fits(nexus: Nexus, n: usize, first: Set) -> bool
 
 // For whom something changes at a place: with another number for those that used it and those that use it, else for those that come or go.
 pub fn changed_at(had: u64, has: u64, renumbered: bool) -> u64
-    ensures { result ≡ if renumbered then bit_or had has else bit_xor had has }
+    ensures { result ≡ when renumbered then bit_or had has else bit_xor had has }
 {
     if renumbered { had | has } else { had ^ has }
 }

@@ -1,79 +1,96 @@
 // write_salvage: a damaged recording on standard input. On standard output the new file or, with the argument --report, the five lines of
 // the report. A refusal is a line on standard error, and nothing is on standard output. Here is what is read and written; what is kept, and
 // the report to the character, is salvage_code's.
-use libc::{STDERR_FILENO, STDIN_FILENO, STDOUT_FILENO};
+#![tactic(auto)]
+
+use pipe::Failure;
 use salvage::{FILE_MOST, Salvaged};
+use std::io;
+use std::io::{Read, Write};
+use std::process::ExitCode;
+use std::rt::Env;
 use text::LINES_MOST;
 
+// Room for a file: one so long is refused.
+const FILE_ROOM: usize = 65536;
+
 // The argument --report is given.
-fn wants_report() -> bool {
+fn wants_report(rt: &impl Env) -> bool {
     let mut word = [0u8; 16];
-    let length = os::arg(1, &mut word);
-    if os::errno() != 0 {
-        return false;
+    match rt.arg(1, &mut word) {
+        Ok(length) => wire_code::is_same(&word[0..length], b"--report"),
+        Err(_) => false,
     }
-    wire_code::is_same(&word[0..length], b"--report")
 }
 
-// What standard input still holds, or whether it failed: negative.
-fn left() -> isize {
+// What standard input still holds, or why it failed.
+fn left<R: Read>(input: &mut R) -> io::Result<usize> {
     let mut more = [0u8; 1];
-    libc::read(STDIN_FILENO, &mut more)
+    input.read(&mut more)
 }
 
-// Writes bytes to standard output, or says that it can't be done.
-fn write_out(bytes: &[u8]) {
-    if !io::write_all(STDOUT_FILENO, bytes) {
-        os::fail(b"standard output");
-    }
+// Writes bytes to standard output.
+fn write_out<W: Write>(output: &mut W, bytes: &[u8]) -> Result<(), Failure> {
+    output.write_all(bytes).map_err(Failure::Output)
 }
 
-fn write_file(file: [u8; FILE_MOST], length: usize) {
+fn write_file<W: Write>(
+    output: &mut W,
+    file: [u8; FILE_MOST],
+    length: usize,
+) -> Result<(), Failure> {
     if FILE_MOST < length {
-        return;
+        return Ok(());
     }
-    write_out(&file[0..length]);
+    write_out(output, &file[0..length])
 }
 
-fn write_lines(bytes: [u8; LINES_MOST], length: usize) {
+fn write_lines<W: Write>(
+    output: &mut W,
+    bytes: [u8; LINES_MOST],
+    length: usize,
+) -> Result<(), Failure> {
     if LINES_MOST < length {
-        return;
+        return Ok(());
     }
-    write_out(&bytes[0..length]);
+    write_out(output, &bytes[0..length])
 }
 
-fn write_report(salvaged: Salvaged) {
+fn write_report<W: Write>(output: &mut W, salvaged: Salvaged) -> Result<(), Failure> {
     let lines = salvage_code::tell(salvaged);
     let bytes = lines.bytes;
-    write_lines(bytes, lines.length);
+    write_lines(output, bytes, lines.length)
 }
 
 // Salvages a file, and writes what is wanted of it.
-fn give(file: &[u8]) {
+fn give<W: Write>(rt: &(impl Env + Eprint), output: &mut W, file: &[u8]) -> Result<(), Failure> {
     let mut new = [0u8; FILE_MOST];
     let salvaged = salvage_code::salvage(file, &mut new);
     let verdict = salvaged.verdict;
     if recording_code::verdict_number(verdict) != 0 {
-        io::write_all(
-            STDERR_FILENO,
-            b"21 the recording can't be salvaged, and nothing is written\n",
+        return eprintln!(rt; "21 the recording can't be salvaged, and nothing is written").map_err(
+            Failure::Message,
         );
-        return;
     }
-    if wants_report() {
-        write_report(salvaged);
-        return;
+    if wants_report(rt) {
+        return write_report(output, salvaged);
     }
-    write_file(new, salvaged.new.total);
+    write_file(output, new, salvaged.new.total)
 }
 
 // A file is read as far as 65,536 bytes: one so long is refused.
-fn main() {
-    let mut file = io::large_buffer();
-    let length = io::read_full(STDIN_FILENO, &mut file);
-    if left() < 0 {
-        os::fail(b"standard input");
-        return;
-    }
-    give(&file[0..length]);
+fn run<R: Read, W: Write>(
+    rt: &(impl Env + Eprint),
+    input: &mut R,
+    output: &mut W,
+) -> Result<(), Failure> {
+    let mut file = [0u8; FILE_ROOM];
+    let length = pipe::read_full(input, &mut file).map_err(Failure::Input)?;
+    left(input).map_err(Failure::Input)?;
+    give(rt, output, &file[0..length])
+}
+
+fn main(rt: HostRuntime) -> ExitCode {
+    let outcome = run(&rt, &mut rt.stdin(), &mut rt.stdout());
+    pipe::end(&rt, outcome)
 }

@@ -60,7 +60,7 @@ fn each_row_of_the_table_that_has_a_value_is_so() {
             let (first, last) = part.split_once('–').unwrap_or((part, part));
             let ends = [first, last].map(|end| end.parse::<usize>().expect("a number"));
             for at in ends[0]..=ends[1] {
-                assert_eq!(data.get(at), value.first(), "byte {at}: {row}");
+                assert_eq!(data[at], value[0], "byte {at}: {row}");
                 count += 1;
             }
         }

@@ -30,9 +30,9 @@ mark_spec =
     (λ c κs. search rules)
     (λ c κs. search rules)
     (λ c.
-    let start = c.before.before.before.before.before in
+    let start = c.before.before.before.before.before.before.before.before in
     let r = worded start.args.r in
-    let n = c.before.before.before.before.sender-number.ensures in
-    let found = quiet-found true r.state start.args.asked (nexuses start) n c.before.before.before.look.ensures c.before.before.quietly.ensures in
-    ap₂ {C = Outcome} (λ (x : Record) (y : Sense). record { after = x; answer = c.before.before.quietly.result.answer; sense = y }) c.before.change-marks-in.ensures c.sense-of.ensures
+    let n = c.before.before.before.before.before.before.before.sender_number-n.ensures in
+    let found = quiet-found true r.state start.args.asked (nexuses start) n c.before.before.before.before.before.look-sight.ensures c.before.before.quietly-quiet.ensures in
+    ap₂ {C = Outcome} (λ (x : Record) (y : Sense). record { after = x; answer = c.before.before.quietly-quiet.result.answer; sense = y }) c.before.change_marks_in.ensures c.sense_of.ensures
     ∙ ap₂ {C = Outcome} (λ (m : ℕ) (q : Quiet). outcome_with (keeping r.words (changes r.state m q.change)) q.answer) n found))

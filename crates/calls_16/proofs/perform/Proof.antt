@@ -1,5 +1,4 @@
 use borrow.Author.Rules.{rules}
-use borrow.Author.Tests.{not-true, not-false}
 use mathlib.Core.Bool.{Bool, ◌||◌}
 use mathlib.Core.Path.{◌≡◌, sym, ap, ◌∙◌}
 use lib.ListN.{length}
@@ -28,31 +27,31 @@ places : (s : tie.Start) → length s.args.r.device.sets ≡ place_count
 places s = search (rules, sized-field)
 
 -- whether check 1 lets it pass
-passes : (c : tie.After-is-power-on) → let a = c.before.before.args in (a.formed || c.is-power-on.result) ≡ (a.formed || is_power_on a.asked)
-passes c = ap (λ (b : Bool). c.before.before.args.formed || b) c.is-power-on.ensures
+passes : (c : tie.After-is_power_on) → let a = c.before.before.args in (a.formed || c.is_power_on.result) ≡ (a.formed || is_power_on a.asked)
+passes c = ap (λ (b : Bool). c.before.before.args.formed || b) c.is_power_on.ensures
 
 -- where it does, what is asked for is carried out
-pass : (c : tie.Else1) {asked : Asked} {o : Outcome} → let a = c.before.before.before.args in let page = a.page.now in
+pass : (c : tie.Else-not-formed-is_power_on) {asked : Asked} {o : Outcome} → let a = c.before.before.before.args in let page = a.page.now in
     a.asked ≡ asked → o ≡ known c.before.before.before asked → o ≡ outcome_by (worded a.r) (call_of a.asked page) (answer_where a.formed (state a.r.device) (call_of a.asked page))
 pass c e h =
     let a = c.before.before.before.args in
     let page = a.page.now in
-    let t = sym (passes c.before) ∙ not-false _ c.if1.false in
+    let t = sym (passes c.before) ∙ c.if-not-formed-is_power_on.false in
     h ∙ ap (known c.before.before.before) (sym e) ∙ ap (outcome_by (worded a.r) (call_of a.asked page)) (where-known a.formed (worded a.r) a.asked page t)
 
 -- IN, a write or a read
-marks : (c : tie.Else1) {asked : Asked} {o : Outcome} → let a = c.before.before.before.args in let page = a.page.now in a.asked ≡ asked → marked_by (worded a.r) asked ≡ known c.before.before.before asked
+marks : (c : tie.Else-not-formed-is_power_on) {asked : Asked} {o : Outcome} → let a = c.before.before.before.args in let page = a.page.now in a.asked ≡ asked → marked_by (worded a.r) asked ≡ known c.before.before.before asked
     → o ≡ marked_by (worded a.r) a.asked → o ≡ outcome_by (worded a.r) (call_of a.asked page) (answer_where a.formed (state a.r.device) (call_of a.asked page))
 marks c e h m = pass c e (m ∙ ap (marked_by (worded c.before.before.before.args.r)) e ∙ h)
 
-pub perform-spec : {M : Type 1} → statement M
-perform-spec =
+pub perform_spec : {M : Type 1} → statement M
+perform_spec =
     tie.close
     (tie.spec
     (λ c κs. search rules)
     (λ c.
     let a = c.before.before.before.args in
-    perform-unformed a.formed (worded a.r) a.asked a.page.now (sym (passes c.before) ∙ not-true _ c.if1.true))
+    perform-unformed a.formed (worded a.r) a.asked a.page.now (sym (passes c.before) ∙ c.if-not-formed-is_power_on.true))
     (λ c. search rules)
     (λ c κs. search rules)
     (λ c. search rules)
@@ -67,10 +66,10 @@ perform-spec =
     (λ c κs. search rules)
     (λ c. search rules)
     (λ c κs. search rules)
-    (λ c. let s = c.before.before.before.before.before.before in pass c.before.before.before c.before.enum_told.given.1 (c.power-on.ensures ∙ power-known (worded s.args.r) (nexuses s) (places s)))
-    (λ c. let e = c.before.enum-told2.given.1 in marks c.before.before.before e (in-known _ _ c.before.before.before.before.before.before.args.page.now) c.mark.ensures)
-    (λ c. pass c.before.before.before.before c.before.before.asked.given.1 c.security-out-known.ensures)
-    (λ c. let e = c.before.enum-told3.given.1 in marks c.before.before.before e (write_known _ _ _ c.before.before.before.before.before.before.args.page.now) c.mark2.ensures)
-    (λ c. let e = c.before.enum-told4.given.1 in marks c.before.before.before e (read_known _ _ _ c.before.before.before.before.before.before.args.page.now) c.mark3.ensures)
-    (λ c. pass c.before.before.before c.before.enum-told5.given.1 c.unit-reset-known.ensures)
-    (λ c. pass c.before.before.before.before c.before.before.asked2.given.1 c.happen-known.ensures))
+    (λ c. let s = c.before.before.before.before.before in pass c.before.before c.in-PowerOn.is (c.power_on.ensures ∙ power-known (worded s.args.r) (nexuses s) (places s)))
+    (λ c. let e = c.in-In.is in marks c.before.before e (in-known _ _ c.args.page.now) c.mark.ensures)
+    (λ c. pass c.before.before c.in-Out.is c.security_out_known.ensures)
+    (λ c. let e = c.in-Write.is in marks c.before.before e (write_known _ _ _ c.args.page.now) c.mark-in-Write.ensures)
+    (λ c. let e = c.in-Read.is in marks c.before.before e (read_known _ _ _ c.args.page.now) c.mark-in-Read.ensures)
+    (λ c. pass c.before.before c.in-UnitReset.is c.unit_reset_known.ensures)
+    (λ c. pass c.before.before c.in-Happen.is c.happen_known.ensures))

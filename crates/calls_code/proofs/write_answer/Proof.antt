@@ -1,5 +1,6 @@
+use mathlib.Core.Bool.{not}
 use borrow.Author.Rules.{rules}
-use mathlib.Core.Path.{sym, ◌∙◌}
+use mathlib.Core.Path.{sym, ◌∙◌, ap}
 use mathlib.Core.List.{List}
 use Rattle.answer.specs.declared.Answer.{Answer}
 use Rattle.drive.specs.Checks.{heard, permitted}
@@ -14,18 +15,18 @@ front s = heard s.args.nexuses s.args.n s.args.nexus.marks
 abbrev rest : tie.Start → List Answer
 rest s = permitted s.args.nexus s.args.set s.args.supported
 
-pub write-answer-spec : {M : Type 1} → statement M
-write-answer-spec =
+pub write_answer_spec : {M : Type 1} → statement M
+write_answer_spec =
     tie.close
     (tie.spec
     (λ c κs. search rules)
     (λ c κs. search rules)
     (λ c.
     let s = c.before.before.before.before in
-    let e = c.before.before.hear.ensures in
-    e ∙ sym (first_stops (front s) (rest s) (told-fault e c.before.is-done.ensures c.if1.true)))
+    let e = c.before.before.hear-heard.ensures in
+    e ∙ sym (first_stops (front s) (rest s) (told-fault e c.before.is_done.ensures (ap not c.if-not-is_done.true))))
     (λ c κs. search rules)
     (λ c.
     let s = c.before.before.before.before.before in
-    let e = c.before.before.before.hear.ensures in
-    c.check-write.ensures ∙ sym (first_passes (front s) (rest s) (told-done e c.before.before.is-done.ensures c.before.if1.false))))
+    let e = c.before.before.before.hear-heard.ensures in
+    c.check_write.ensures ∙ sym (first_passes (front s) (rest s) (told-done e c.before.before.is_done.ensures (ap not c.before.if-not-is_done.false)))))

@@ -10,9 +10,9 @@ use Rattle.claim_16.proofs.note.Tie as tie
 told : (a : tie.Start) {x : Asked} → a.args.asked ≡ x → noted_each nexus_count (wrote_as x a.args.decision) a.args.rows ≡ noted_each nexus_count (wrote_as a.args.asked a.args.decision) a.args.rows
 told a e = ap (λ (x : Asked). noted_each nexus_count (wrote_as x a.args.decision) a.args.rows) (sym e)
 
-pub note-spec : {M : Type 1} → statement M
+pub note_spec : {M : Type 1} → statement M
 unfolding noted_each
-note-spec =
+note_spec =
     tie.close
     (tie.spec
     (λ c. search rules)
@@ -23,10 +23,10 @@ note-spec =
     (λ c. search rules)
     (λ c. search rules)
     (λ c. search rules)
-    (λ c. told c.before.before c.enum_told.given.1)
-    (λ c. told c.before.before c.enum-told2.given.1)
-    (λ c. told c.before.before c.enum-told3.given.1)
-    (λ c. c.count_at.ensures ∙ told c.before.before.before.before c.before.before.asked.given.1)
-    (λ c. told c.before.before c.enum-told4.given.1)
-    (λ c. told c.before.before c.enum-told5.given.1)
-    (λ c. told c.before.before c.enum-told6.given.1))
+    (λ c. told c.before c.in-PowerOn.is)
+    (λ c. told c.before c.in-In.is)
+    (λ c. told c.before c.in-Out.is)
+    (λ c. c.count_at.ensures ∙ told c.before.before c.in-Write.is)
+    (λ c. told c.before c.in-Read.is)
+    (λ c. told c.before c.in-UnitReset.is)
+    (λ c. told c.before c.in-Happen.is))

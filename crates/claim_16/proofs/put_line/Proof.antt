@@ -12,8 +12,8 @@ use Rattle.claim_16.proofs.put_line.Tie as tie
 sized : (a : tie.Start) → length a.args.line.bytes ≡ 128
 sized a = search rules
 
-pub put-line-spec : {M : Type 1} → statement M
-put-line-spec =
+pub put_line_spec : {M : Type 1} → statement M
+put_line_spec =
     tie.close
     (tie.spec
     (λ c. search rules)

@@ -10,15 +10,14 @@ use Rattle.claim_code.proofs.put_spaced.Statement.{statement}
 use Rattle.claim_code.proofs.put_spaced.Tie as tie
 
 -- the number has at most 20 digits
-few : (c : tie.After-put-decimal) → c.put-decimal.result ≤ 20
-few c = let a = c.before.before.before.before.before.before.before.before in omega (arith, c.put-decimal.ensures.0, decimal-20 a.args.n (omega (arith, a.well-formed)))
+few : (c : tie.After-put_decimal-digits) → c.put_decimal-digits.result ≤ 20
+few c = let a = c.before.before.before.before.before.before.before.before in omega (arith, c.put_decimal-digits.ensures.0, decimal-20 a.args.n (omega (arith, a.well_formed)))
 
-pub put-spaced-spec : {M : Type 1} → statement M
+pub put_spaced_spec : {M : Type 1} → statement M
 unfolding bytes_of
-put-spaced-spec =
+put_spaced_spec =
     tie.close
     (tie.spec
-    (λ c. search rules)
     (λ c κs. search rules)
     (λ c. search rules)
     (λ c κs. search rules)
@@ -27,7 +26,7 @@ put-spaced-spec =
     (λ c. search rules)
     (λ c.
     let a = c.before.before.before.before.before.before.before.before.before.before.args in
-    let d = c.before.before.put-decimal.ensures in (
+    let d = c.before.before.put_decimal-digits.ensures in (
       put_then (put_is (bytes_of " ") refl c.before.before.before.before.before.before.put.ensures) (put_is (decimal a.n) (ap (λ k. a.at + 1 + k) d.0) d.1),
       omega (arith, few c.before.before),
     )))

@@ -13,32 +13,32 @@ use Rattle.drive_16.proofs.accept.Statement.{statement}
 use Rattle.drive_16.proofs.accept.Tie as tie
 
 -- whether the page has no place, as the code found it
-tested : (c : tie.After-is-no-room) → let a = c.before.before.before.args in (c.before.needs-place.result && c.is-no-room.result) ≡ no_place (state a.r.device) a.n a.page
+tested : (c : tie.After-is_no_room) → let a = c.before.before.before.args in (c.before.needs_place.result && c.is_no_room.result) ≡ no_place (state a.r.device) a.n a.page
 tested c =
     let a = c.before.before.before.args in
-    simp (c.before.needs-place.ensures, c.is-no-room.ensures, c.before.before.room-asked.ensures) (no-place-asked (state a.r.device) a.n a.page)
+    simp (c.before.needs_place.ensures, c.is_no_room.ensures, c.before.before.room_asked-room.ensures) (no-place-asked (state a.r.device) a.n a.page)
 
 -- the page taken
-took : (c : tie.After-take-page) → let a = c.before.before.before.before.before.args in c.take-page.result ≡ device (taken (state a.r.device) a.n a.page)
+took : (c : tie.After-take_page-taken) → let a = c.before.before.before.before.before.args in c.take_page-taken.result ≡ device (taken (state a.r.device) a.n a.page)
 took c =
     let a = c.before.before.before.before.before.args in
-    c.take-page.ensures ∙ ap (λ (r : Room). device (taken_in (state a.r.device) a.n a.page r)) c.before.before.before.before.room-asked.ensures
+    c.take_page-taken.ensures ∙ ap (λ (r : Room). device (taken_in (state a.r.device) a.n a.page r)) c.before.before.before.before.room_asked-room.ensures
     ∙ ap device (taken_in_lem (state a.r.device) a.n a.page)
 
-pub accept-spec : {M : Type 1} → statement M
+pub accept_spec : {M : Type 1} → statement M
 unfolding held_after changed_by
-accept-spec =
+accept_spec =
     tie.close
     (tie.spec
     (λ c κs. search rules)
     (λ c κs. search rules)
     (λ c κs. search rules)
     (λ c κs. search rules)
-    (λ c. c.refuse.ensures ∙ sym (if-true _ _ _ (sym (tested c.before.before) ∙ c.before.if1.true)))
+    (λ c. c.refuse.ensures ∙ sym (if-true _ _ _ (sym (tested c.before.before) ∙ c.before.if-needs_place-is_no_room.true)))
     (λ c κs. search rules)
     (λ c κs. search rules)
     (λ c κs. search rules)
     (λ c.
     let passed = c.before.before.before in
-    let f = sym (tested passed.before) ∙ passed.if1.false in
-    simp (f, c.tell.ensures, c.before.change-marks.ensures, took c.before.before)))
+    let f = sym (tested passed.before.before) ∙ passed.if-needs_place-is_no_room.false in
+    simp (f, c.tell.ensures, c.before.change_marks-registered.ensures, took c.before.before)))

@@ -1,7 +1,6 @@
 use borrow.Author.Rules.{rules}
 use Prim.Native.Nat.{◌<◌}
 use mathlib.Core.Path.{◌≡◌, refl, sym, ap, ◌∙◌}
-use borrow.Author.Tests.{not-true, not-false}
 use native.Mathlib.Omega.{arith}
 use lib.ListN.{length}
 use Rattle.arrays.proofs.Laws.{sized-field}
@@ -23,16 +22,16 @@ some : (c : tie.After-formed) → 0 < length c.before.args.r.device.sets
 some c = let l : length c.before.args.r.device.sets ≡ place_count = search (rules, sized-field) in omega (arith, l)
 
 -- where the record is well formed the check of the argument decides
-answered : (c : tie.After-check-event) → let a = c.before.before.before.args in c.check-event.result ≡ answer_of (worded a.r) (happens a.event)
+answered : (c : tie.After-check_event-answer) → let a = c.before.before.before.args in c.check_event-answer.result ≡ answer_of (worded a.r) (happens a.event)
 answered c =
     let a = c.before.before.before.args in
     let n : length a.r.device.nexuses ≡ nexus_count = search (rules, sized-field) in
     let p : length a.r.device.sets ≡ place_count = search (rules, sized-field) in
-    event-answered (state a.r.device) a.event nexus_count place_count _ n p c.check-event.ensures
-    ∙ formed-known (worded a.r) (happens a.event) (sym c.before.before.formed.ensures ∙ not-false _ c.before.if1.false)
+    event-answered (state a.r.device) a.event nexus_count place_count _ n p c.check_event-answer.ensures
+    ∙ formed-known (worded a.r) (happens a.event) (sym c.before.before.formed.ensures ∙ c.before.if-not-formed.false)
 
-pub happen-spec : {M : Type 1} → statement M
-happen-spec =
+pub happen_spec : {M : Type 1} → statement M
+happen_spec =
     tie.close
     (tie.spec
     (λ c κs. search rules)
@@ -43,7 +42,7 @@ happen-spec =
     let r = worded a.r in
     let call = happens a.event in
     c.unchanged.ensures ∙ out-kept r call _ refl refl
-    ∙ ap (outcome_by r call) (unformed-due r call refl (sym asked.formed.ensures ∙ not-true _ c.before.if1.true)) ∙ out-due r call (some asked))
+    ∙ ap (outcome_by r call) (unformed-due r call refl (sym asked.formed.ensures ∙ c.before.if-not-formed.true)) ∙ out-due r call (some asked))
     (λ c κs. search rules)
     (λ c κs. search rules)
     (λ c κs. search rules)
@@ -53,8 +52,8 @@ happen-spec =
     let check = done.before.before in
     let a = check.before.before.before.args in
     let r = worded a.r in
-    c.unchanged2.ensures
-    ∙ event-kept r a.event _ _ _ done.is-done.ensures c.before.before.none-due.ensures c.before.if2.true
+    c.unchanged-then-is_done-none_due.ensures
+    ∙ event-kept r a.event _ _ _ done.is_done.ensures c.before.before.none_due.ensures c.before.if-is_done-none_due.true
     ∙ ap (outcome_by r (happens a.event)) (answered check) ∙ out-due r (happens a.event) (some check.before.before))
     (λ c κs. search rules)
     (λ c.
@@ -62,6 +61,6 @@ happen-spec =
     let check = done.before.before in
     let a = check.before.before.before.args in
     let r = worded a.r in
-    ap (λ (x : Record). record { after = x; answer = check.check-event.result; sense = sense_of Done }) c.release.ensures
-    ∙ event-done r a.event _ _ _ done.is-done.ensures c.before.before.none-due.ensures c.before.if2.false
+    ap (λ (x : Record). record { after = x; answer = check.check_event-answer.result; sense = sense_of Done }) c.release.ensures
+    ∙ event-done r a.event _ _ _ done.is_done.ensures c.before.before.none_due.ensures c.before.if-is_done-none_due.false
     ∙ ap (outcome_by r (happens a.event)) (answered check) ∙ out-due r (happens a.event) (some check.before.before)))

@@ -1,7 +1,6 @@
 use borrow.Author.Rules.{rules}
 use Prim.Native.Nat.{◌<◌}
 use mathlib.Core.Path.{◌≡◌, refl, sym, ap, ◌∙◌}
-use borrow.Author.Tests.{not-true, not-false}
 use native.Mathlib.Omega.{arith}
 use lib.ListN.{length}
 use Rattle.arrays.proofs.Laws.{sized-field}
@@ -28,11 +27,11 @@ read_spec =
     let asked = c.before.before in
     let a = asked.before.args in
     let r = worded a.r in
-    c.refuse-read.ensures ∙ read-refused r a.n a.block _ refl
-    ∙ ap (read_outcome_by r a.n a.block) (unformed-due r (read a.n a.block) refl (sym asked.formed.ensures ∙ not-true _ c.before.if1.true)) ∙ read-due r a.n a.block (some asked))
+    c.refuse_read.ensures ∙ read-refused r a.n a.block _ refl
+    ∙ ap (read_outcome_by r a.n a.block) (unformed-due r (read a.n a.block) refl (sym asked.formed.ensures ∙ c.before.if-not-formed.true)) ∙ read-due r a.n a.block (some asked))
     (λ c κs. search rules)
     (λ c.
     let asked = c.before.before in
     let a = asked.before.args in
     let r = worded a.r in
-    c.read_known.ensures ∙ ap (read_outcome_by r a.n a.block) (formed-known r (read a.n a.block) (sym asked.formed.ensures ∙ not-false _ c.before.if1.false)) ∙ read-due r a.n a.block (some asked)))
+    c.read_known.ensures ∙ ap (read_outcome_by r a.n a.block) (formed-known r (read a.n a.block) (sym asked.formed.ensures ∙ c.before.if-not-formed.false)) ∙ read-due r a.n a.block (some asked)))

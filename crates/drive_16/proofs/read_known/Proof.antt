@@ -1,3 +1,4 @@
+use mathlib.Core.Bool.{not}
 use borrow.Author.Rules.{rules}
 use mathlib.Core.Path.{◌≡◌, refl, sym, ap, ◌∙◌}
 use mathlib.Core.List.{List, [], ◌∷◌}
@@ -31,45 +32,45 @@ front s = heard_of (state s.args.r.device) s.args.n
 abbrev rest : tie.Start → List Answer
 rest s = (restored (selected_set (state s.args.r.device) s.args.n) s.args.block).answer ∷ []
 
-heard-is : (c : tie.After-hear) → c.hear.result ≡ first_of (front c.before.before.before)
+heard-is : (c : tie.After-hear-heard) → c.hear-heard.result ≡ first_of (front c.before.before.before.before)
 heard-is c =
     let a = c.before.before.before.args in
     let d = a.r.device in
     let l : length d.nexuses ≡ nexus_count = search (rules, sized-field) in
-    heard-found (state d) a.n nexus_count _ _ l c.before.before.nexus-at.ensures c.hear.ensures
+    heard-found (state d) a.n nexus_count _ _ l c.before.before.nexus_at-nexus.ensures c.hear-heard.ensures
 
 -- where checks 2 to 4 find a fault, theirs is the answer
-heard-first : (c : tie.Then1) → c.before.before.hear.result ≡ given c.before.before.before.before.before
+heard-first : (c : tie.Then-not-is_done) → c.before.before.hear-heard.result ≡ given c.before.before.before.before.before.before
 unfolding checks
 heard-first c =
     let s = c.before.before.before.before.before in
-    known-stops (state s.args.r.device) (read s.args.n s.args.block) (front s) (rest s) refl _ (heard-is c.before.before)
-    (fault-told c.before.is-done.ensures c.if1.true)
+    known-stops (state s.args.r.device) (read s.args.n s.args.block) (front s.before) (rest s.before) refl _ (heard-is c.before.before)
+    (fault-told c.before.is_done.ensures (ap not c.if-not-is_done.true))
 
-selects : (c : tie.After-place-of) → let a = c.before.before.before.before.before.before.before.args in c.place_of.result ≡ selected (state a.r.device) a.n
+selects : (c : tie.After-place_of-place) → let a = c.before.before.before.before.before.before.before.args in c.place_of-place.result ≡ selected (state a.r.device) a.n
 selects c =
     let a = c.before.before.before.before.before.before.before.args in
-    found (state a.r.device) a.n _ _ c.before.before.before.before.before.before.nexus-at.ensures c.place_of.ensures.0
+    found (state a.r.device) a.n _ _ c.before.before.before.before.before.before.nexus_at-nexus.ensures c.place_of-place.ensures.0
 
 -- the ruling under the set that the code found
-ruling-is : (c : tie.After-restore) → let a = c.before.before.before.before.before.before.before.before.before.args in
-    c.restore.result ≡ restored (selected_set (state a.r.device) a.n) a.block
+ruling-is : (c : tie.After-restore-ruling) → let a = c.before.before.before.before.before.before.before.before.before.args in
+    c.restore-ruling.result ≡ restored (selected_set (state a.r.device) a.n) a.block
 ruling-is c =
     let a = c.before.before.before.before.before.before.before.before.before.args in
-    c.restore.ensures ∙ ap (λ p. restored (set_at (state a.r.device) p) a.block) (selects c.before.before)
+    c.restore-ruling.ensures ∙ ap (λ p. restored (set_at (state a.r.device) p) a.block) (selects c.before.before)
 
 -- where they find none, the ruling's is
-answered : (c : tie.After-restore) → c.restore.result.answer ≡ given c.before.before.before.before.before.before.before.before.before
+answered : (c : tie.After-restore-ruling) → c.restore-ruling.result.answer ≡ given c.before.before.before.before.before.before.before.before.before.before
 unfolding checks
 answered c =
     let h = c.before.before.before.before.before.before in
     let s = h.before.before.before in
-    known-passes (state s.args.r.device) (read s.args.n s.args.block) (front s) (rest s) refl _ _ (heard-is h)
-    (done-told c.before.before.before.before.before.is-done.ensures c.before.before.before.before.if1.false)
+    known-passes (state s.args.r.device) (read s.args.n s.args.block) (front s.before) (rest s.before) refl _ _ (heard-is h)
+    (done-told c.before.before.before.before.before.is_done.ensures (ap not c.before.before.before.before.if-not-is_done.false))
     (ap (λ v. v.answer) (ruling-is c) ∙ sym (last-is _))
 
-pub read-known-spec : {M : Type 1} → statement M
-read-known-spec =
+pub read_known_spec : {M : Type 1} → statement M
+read_known_spec =
     tie.close
     (tie.spec
     (λ c κs. search rules)
@@ -77,7 +78,7 @@ read-known-spec =
     (λ c κs. search rules)
     (λ c κs. search rules)
     (λ c. let a = c.before.before.before.before.before.before.args in
-    c.refuse-read.ensures ∙ read-refused (worded a.r) a.n a.block _ (fault-told c.before.before.is-done.ensures c.before.if1.true) ∙ ap (read_outcome_by (worded a.r) a.n a.block) (heard-first c.before))
+    c.refuse_read.ensures ∙ read-refused (worded a.r) a.n a.block _ (fault-told c.before.before.is_done.ensures (ap not c.before.if-not-is_done.true)) ∙ ap (read_outcome_by (worded a.r) a.n a.block) (heard-first c.before))
     (λ c κs. search rules)
     (λ c. search rules)
     (λ c. search rules)
@@ -86,10 +87,10 @@ read-known-spec =
     (λ c κs. search rules)
     (λ c. let ruling = c.before.before.before in
     let a = ruling.before.before.before.before.before.before.before.before.before.args in
-    c.refuse-read2.ensures ∙ read-refused (worded a.r) a.n a.block _ (fault-told c.before.before.is-done2.ensures c.before.if2.true) ∙ ap (read_outcome_by (worded a.r) a.n a.block) (answered ruling))
+    c.refuse_read-then-not-is_done-2.ensures ∙ read-refused (worded a.r) a.n a.block _ (fault-told c.before.before.is_done-2.ensures (ap not c.before.if-not-is_done-2.true)) ∙ ap (read_outcome_by (worded a.r) a.n a.block) (answered ruling))
     (λ c. let ruling = c.before.before in
     let a = ruling.before.before.before.before.before.before.before.before.before.args in
     let v = ruling-is ruling in
     let p = selects ruling.before.before in
-    (λ i. record { after = a.r; answer = ruling.restore.result.answer; sense = sense_of Done; decision = (v i).decision; place = p i })
-    ∙ read_done (worded a.r) a.n a.block _ (done-told c.before.is-done2.ensures c.if2.false) ∙ ap (read_outcome_by (worded a.r) a.n a.block) (answered ruling)))
+    (λ i. record { after = a.r; answer = ruling.restore-ruling.result.answer; sense = sense_of Done; decision = (v i).decision; place = p i })
+    ∙ read_done (worded a.r) a.n a.block _ (done-told c.before.is_done-2.ensures (ap not c.if-not-is_done-2.false)) ∙ ap (read_outcome_by (worded a.r) a.n a.block) (answered ruling)))

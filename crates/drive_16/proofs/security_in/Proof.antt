@@ -1,7 +1,6 @@
 use borrow.Author.Rules.{rules}
 use Prim.Native.Nat.{◌<◌}
 use mathlib.Core.Path.{◌≡◌, refl, sym, ap, ◌∙◌}
-use borrow.Author.Tests.{not-true, not-false}
 use native.Mathlib.Omega.{arith}
 use lib.ListN.{length}
 use Rattle.arrays.proofs.Laws.{sized-field}
@@ -21,8 +20,8 @@ use Rattle.drive_16.proofs.security_in.Tie as tie
 some : (c : tie.After-formed) → 0 < length c.before.before.args.r.device.sets
 some c = let l : length c.before.before.args.r.device.sets ≡ place_count = search (rules, sized-field) in omega (arith, l)
 
-pub security-in-spec : {M : Type 1} → statement M
-security-in-spec =
+pub security_in_spec : {M : Type 1} → statement M
+security_in_spec =
     tie.close
     (tie.spec
     (λ c κs. search rules)
@@ -31,8 +30,8 @@ security-in-spec =
     let asked = c.before.before in
     let a = asked.before.before.args in
     let r = worded a.r in
-    let e = unformed-due r (security_in a.command) refl (sym asked.formed.ensures ∙ not-true _ c.before.if1.true) in (
-      c.refuse-in.ensures ∙ in-refused r a.command _ refl ∙ ap (in_outcome_by r a.command) e ∙ in-due r a.command (some asked),
+    let e = unformed-due r (security_in a.command) refl (sym asked.formed.ensures ∙ c.before.if-not-formed.true) in (
+      c.refuse_in.ensures ∙ in-refused r a.command _ refl ∙ ap (in_outcome_by r a.command) e ∙ in-due r a.command (some asked),
       in_kept r a.command NotWellFormed a.buffer.now refl ∙ ap (λ (x : Answer). in_buffer r.state a.command x a.buffer.now) e,
     ))
     (λ c κs. search rules)
@@ -41,8 +40,8 @@ security-in-spec =
     let asked = c.before.before.before.before.before in
     let a = asked.before.before.args in
     let r = worded a.r in
-    let e = formed-known r (security_in a.command) (sym asked.formed.ensures ∙ not-false _ c.before.before.before.before.if1.false) in
-    let known = c.before.before.security-in-known.ensures in (
+    let e = formed-known r (security_in a.command) (sym asked.formed.ensures ∙ c.before.before.before.before.if-not-formed.false) in
+    let known = c.before.before.security_in_known.ensures in (
       known.0 ∙ ap (in_outcome_by r a.command) e ∙ in-due r a.command (some asked),
       known.1 ∙ ap (λ (x : Answer). in_buffer r.state a.command x a.buffer.now) e,
     )))

@@ -2,7 +2,7 @@ use borrow.Author.Rules.{rules}
 use mathlib.Core.Path.{◌≡◌, refl, sym, ◌∙◌}
 use mathlib.Core.Bool.{true, false}
 use native.Mathlib.Omega.{arith}
-use borrow.Author.Tests.{not-true, not-false, le-leb, lt-leb}
+use borrow.Author.Tests.{le-leb, lt-leb}
 use Prim.Native.Nat.{ℕ, ◌≤◌, ◌<◌}
 use lib.ListN.{length, get_or}
 use Rattle.arrays.proofs.Laws.{sized-field}
@@ -33,19 +33,19 @@ module _ (r : Worded) (place : ℕ) where
 placed : (c : tie.After-formed) → length c.before.args.r.device.sets ≡ place_count
 placed c = search (rules, sized-field)
 
-pub serves-spec : {M : Type 1} → statement M
-serves-spec =
+pub serves_spec : {M : Type 1} → statement M
+serves_spec =
     tie.close
     (tie.spec
     (λ c κs. search rules)
-    (λ c. unformed (worded c.before.before.args.r) c.before.before.args.place (sym c.before.formed.ensures ∙ not-true _ c.if1.true))
+    (λ c. unformed (worded c.before.before.args.r) c.before.before.args.place (sym c.before.formed.ensures ∙ c.if-not-formed.true))
     (λ c.
     let asked = c.before.before in
     let a = asked.before.args in
-    above (worded a.r) a.place (sym asked.formed.ensures ∙ not-false _ c.before.if1.false) (omega (arith, placed asked, c.if2.true)))
+    above (worded a.r) a.place (sym asked.formed.ensures ∙ c.before.if-not-formed.false) (omega (arith, placed asked, c.if-at-ge-PLACES.true)))
     (λ c. search rules)
     (λ c. search rules)
     (λ c.
     let asked = c.before.before.before in
     let a = asked.before.args in
-    told (worded a.r) a.place (sym asked.formed.ensures ∙ not-false _ c.before.before.if1.false) (omega (arith, placed asked, c.before.if2.false))))
+    told (worded a.r) a.place (sym asked.formed.ensures ∙ c.before.before.if-not-formed.false) (omega (arith, placed asked, c.before.if-at-ge-PLACES.false))))

@@ -1,7 +1,6 @@
 use borrow.Author.Rules.{rules}
 use Prim.Native.Nat.{◌<◌}
 use mathlib.Core.Path.{◌≡◌, refl, sym, ap, ◌∙◌}
-use borrow.Author.Tests.{not-true, not-false}
 use native.Mathlib.Omega.{arith}
 use lib.ListN.{length}
 use Rattle.arrays.proofs.Laws.{sized-field}
@@ -18,8 +17,8 @@ use Rattle.drive_16.proofs.unit_reset.Tie as tie
 some : (c : tie.After-formed) → 0 < length c.before.args.r.device.sets
 some c = let l : length c.before.args.r.device.sets ≡ place_count = search (rules, sized-field) in omega (arith, l)
 
-pub unit-reset-spec : {M : Type 1} → statement M
-unit-reset-spec =
+pub unit_reset_spec : {M : Type 1} → statement M
+unit_reset_spec =
     tie.close
     (tie.spec
     (λ c κs. search rules)
@@ -28,9 +27,9 @@ unit-reset-spec =
     let asked = c.before.before in
     let r = worded asked.before.args.r in
     c.unchanged.ensures ∙ out-kept r unit_reset _ refl refl
-    ∙ ap (outcome_by r unit_reset) (unformed-due r unit_reset refl (sym asked.formed.ensures ∙ not-true _ c.before.if1.true)) ∙ out-due r unit_reset (some asked))
+    ∙ ap (outcome_by r unit_reset) (unformed-due r unit_reset refl (sym asked.formed.ensures ∙ c.before.if-not-formed.true)) ∙ out-due r unit_reset (some asked))
     (λ c κs. search rules)
     (λ c.
     let asked = c.before.before in
     let r = worded asked.before.args.r in
-    c.unit-reset-known.ensures ∙ ap (outcome_by r unit_reset) (formed-known r unit_reset (sym asked.formed.ensures ∙ not-false _ c.before.if1.false)) ∙ out-due r unit_reset (some asked)))
+    c.unit_reset_known.ensures ∙ ap (outcome_by r unit_reset) (formed-known r unit_reset (sym asked.formed.ensures ∙ c.before.if-not-formed.false)) ∙ out-due r unit_reset (some asked)))

@@ -1,7 +1,6 @@
 use borrow.Author.Rules.{rules}
 use Prim.Native.Nat.{◌<◌}
 use mathlib.Core.Path.{◌≡◌, refl, sym, ap, ◌∙◌}
-use borrow.Author.Tests.{not-true, not-false}
 use native.Mathlib.Omega.{arith}
 use lib.ListN.{length}
 use Rattle.arrays.proofs.Laws.{sized-field}
@@ -28,11 +27,11 @@ write_spec =
     let asked = c.before.before in
     let a = asked.before.args in
     let r = worded a.r in
-    c.refuse-write.ensures ∙ write-refused r a.n a.supported _ refl
-    ∙ ap (write_outcome_by r a.n a.supported) (unformed-due r (write a.n a.supported) refl (sym asked.formed.ensures ∙ not-true _ c.before.if1.true)) ∙ write-due r a.n a.supported (some asked))
+    c.refuse_write.ensures ∙ write-refused r a.n a.supported _ refl
+    ∙ ap (write_outcome_by r a.n a.supported) (unformed-due r (write a.n a.supported) refl (sym asked.formed.ensures ∙ c.before.if-not-formed.true)) ∙ write-due r a.n a.supported (some asked))
     (λ c κs. search rules)
     (λ c.
     let asked = c.before.before in
     let a = asked.before.args in
     let r = worded a.r in
-    c.write_known.ensures ∙ ap (write_outcome_by r a.n a.supported) (formed-known r (write a.n a.supported) (sym asked.formed.ensures ∙ not-false _ c.before.if1.false)) ∙ write-due r a.n a.supported (some asked)))
+    c.write_known.ensures ∙ ap (write_outcome_by r a.n a.supported) (formed-known r (write a.n a.supported) (sym asked.formed.ensures ∙ c.before.if-not-formed.false)) ∙ write-due r a.n a.supported (some asked)))

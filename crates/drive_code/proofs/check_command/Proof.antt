@@ -1,5 +1,6 @@
+use mathlib.Core.Bool.{not}
 use borrow.Author.Rules.{rules}
-use mathlib.Core.Path.{sym, ◌∙◌}
+use mathlib.Core.Path.{sym, ◌∙◌, ap}
 use mathlib.Core.List.{List, [], ◌∷◌}
 use borrow.Author.Tests.{eq-eqb, ne_eqb}
 use Rattle.answer.specs.declared.Answer.{Answer}
@@ -15,17 +16,17 @@ front s = heard s.args.nexuses s.args.command.nexus s.args.marks
 abbrev rest : tie.Start → List Answer
 rest s = check5 s.args.command.protocol ∷ check6 s.args.supported ∷ []
 
-pub check-command-spec : {M : Type 1} → statement M
-check-command-spec =
+pub check_command_spec : {M : Type 1} → statement M
+check_command_spec =
     tie.close
     (tie.spec
     (λ c κs. search rules)
     (λ c κs. search rules)
     (λ c. let h = c.before.before in let s = h.before in
-    h.hear.ensures ∙ sym (first_stops (front s) (rest s) (told-fault h.hear.ensures c.before.is-done.ensures c.if1.true)))
+    h.hear-heard.ensures ∙ sym (first_stops (front s) (rest s) (told-fault h.hear-heard.ensures c.before.is_done.ensures (ap not c.if-not-is_done.true))))
     (λ c. let h = c.before.before.before.before in let s = h.before in
-    sym (first_passes (front s) (rest s) (told-done h.hear.ensures c.before.before.before.is-done.ensures c.before.before.if1.false) ∙ simp (ne_eqb _ _ c.if2.true)))
+    sym (first_passes (front s) (rest s) (told-done h.hear-heard.ensures c.before.before.before.is_done.ensures (ap not c.before.before.if-not-is_done.false)) ∙ simp (ne_eqb _ _ c.if-command-ne-PROTOCOL.true)))
     (λ c. let h = c.before.before.before.before.before in let s = h.before in
-    sym (first_passes (front s) (rest s) (told-done h.hear.ensures c.before.before.before.before.is-done.ensures c.before.before.before.if1.false) ∙ simp (eq-eqb _ _ c.before.if2.false, c.if3.true)))
+    sym (first_passes (front s) (rest s) (told-done h.hear-heard.ensures c.before.before.before.before.is_done.ensures (ap not c.before.before.before.if-not-is_done.false)) ∙ simp (eq-eqb _ _ c.before.if-command-ne-PROTOCOL.false, (ap not c.if-not-supported.true))))
     (λ c. let h = c.before.before.before.before.before in let s = h.before in
-    sym (first_passes (front s) (rest s) (told-done h.hear.ensures c.before.before.before.before.is-done.ensures c.before.before.before.if1.false) ∙ simp (eq-eqb _ _ c.before.if2.false, c.if3.false))))
+    sym (first_passes (front s) (rest s) (told-done h.hear-heard.ensures c.before.before.before.before.is_done.ensures (ap not c.before.before.before.if-not-is_done.false)) ∙ simp (eq-eqb _ _ c.before.if-command-ne-PROTOCOL.false, (ap not c.if-not-supported.false)))))

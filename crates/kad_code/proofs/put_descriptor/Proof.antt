@@ -12,20 +12,20 @@ use Rattle.kad_code.proofs.put_descriptor.Statement.{statement}
 use Rattle.kad_code.proofs.put_descriptor.Tie as tie
 
 -- no data: nothing is stored
-empty : tie.Need-returns
+empty : tie.Need-returns-then-bytes-eq0
 empty c =
-    let e = none c.before.before.before.args.kind c.before.before.before.args.bytes.now c.if1.true in
+    let e = none c.before.before.before.args.kind c.before.before.before.args.bytes.now c.if-bytes-eq0.true in
     (rw e (sym (add-zero _)), rw e refl)
 
 -- the head, and the data after it
-whole : tie.Need-returns-2
+whole : tie.Need-returns
 whole c =
     let a = c.before.before.before.before.before.before.before.before.before.before.before.before.args in
-    let e = some a.kind a.bytes.now c.before.before.before.before.before.before.before.before.before.if1.false (omega arith) in
-    (rw e (omega arith), c.before.before.put2.ensures ∙ ap (λ (b : List ℕ). sets b (a.at + 4) a.bytes.now) c.before.before.before.before.before.before.put.ensures ∙ sets-append a.buffer.now a.at (a.kind ∷ 0 ∷ 0 ∷ length a.bytes.now ∷ []) a.bytes.now ∙ rw e refl)
+    let e = some a.kind a.bytes.now c.before.before.before.before.before.before.before.before.before.if-bytes-eq0.false (omega arith) in
+    (rw e (omega arith), c.before.before.put-2.ensures ∙ ap (λ (b : List ℕ). sets b (a.at + 4) a.bytes.now) c.before.before.before.before.before.before.put.ensures ∙ sets-append a.buffer.now a.at (a.kind ∷ 0 ∷ 0 ∷ length a.bytes.now ∷ []) a.bytes.now ∙ rw e refl)
 
-pub put-descriptor-spec : {M : Type 1} → statement M
-put-descriptor-spec =
+pub put_descriptor_spec : {M : Type 1} → statement M
+put_descriptor_spec =
     tie.close
     (tie.spec
     empty

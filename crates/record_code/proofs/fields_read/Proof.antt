@@ -3,9 +3,9 @@ use Rattle.record.specs.Reading.{fields_read}
 use Rattle.record_code.proofs.fields_read.Statement.{statement}
 use Rattle.record_code.proofs.fields_read.Tie as tie
 
-pub fields-read-spec : {M : Type 1} → statement M
+pub fields_read_spec : {M : Type 1} → statement M
 unfolding fields_read
-fields-read-spec =
+fields_read_spec =
     tie.close
     (tie.spec
     (λ c κs. search rules)
@@ -21,4 +21,4 @@ fields-read-spec =
     (λ c.
     let flags = c.before.before.before in
     let bytes = flags.before.before.before.before in
-    simp (bytes.before.before.bytes-32-at.ensures, bytes.before.kads-of.ensures, bytes.byte_at.ensures, flags.before.before.before.byte-at2.ensures, flags.before.before.byte-at3.ensures, flags.before.byte-at4.ensures, flags.flag_at.ensures, c.before.before.flag-at2.ensures, c.before.flag-at3.ensures, c.flag-at4.ensures)))
+    simp (bytes.before.before.bytes_32_at-key.ensures, bytes.before.kads_of-kads.ensures, bytes.byte_at.ensures, flags.before.before.before.byte_at-2.ensures, flags.before.before.byte_at-3.ensures, flags.before.byte_at-4.ensures, flags.flag_at.ensures, c.before.before.flag_at-2.ensures, c.before.flag_at-3.ensures, c.flag_at-4.ensures)))

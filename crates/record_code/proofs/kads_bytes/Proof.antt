@@ -8,8 +8,8 @@ use Rattle.record_code.proofs.kads_bytes.Tie as tie
 sized : (s : tie.Start) → Sized s.args.kads
 sized s = (search rules, search rules)
 
-pub kads-bytes-spec : {M : Type 1} → statement M
-kads-bytes-spec =
+pub kads_bytes_spec : {M : Type 1} → statement M
+kads_bytes_spec =
     tie.close
     (tie.spec
     (λ c. search rules)
@@ -30,4 +30,4 @@ kads-bytes-spec =
     let second = third.before.before.before.before in
     let first = second.before.before.before.before in
     let start = first.before.before.before.before.before in
-    kads-stored start.args.kads (sized start) first.put.ensures second.put2.ensures third.put3.ensures fourth.put4.ensures))
+    kads-stored start.args.kads (sized start) first.put.ensures second.put-2.ensures third.put-3.ensures fourth.put-4.ensures))

@@ -3,9 +3,9 @@ use Rattle.record.specs.Reading.{nexus_read}
 use Rattle.record_code.proofs.nexus_read.Statement.{statement}
 use Rattle.record_code.proofs.nexus_read.Tie as tie
 
-pub nexus-read-spec : {M : Type 1} → statement M
+pub nexus_read_spec : {M : Type 1} → statement M
 unfolding nexus_read
-nexus-read-spec =
+nexus_read_spec =
     tie.close
     (tie.spec
     (λ c κs. search rules)
@@ -17,4 +17,4 @@ nexus-read-spec =
     (λ c κs. search rules)
     (λ c.
     let lock = c.before.before.before.before.before in
-    simp (lock.before.byte_at.ensures, lock.flag_at.ensures, c.before.before.before.before.number_at.ensures, c.before.before.before.number-at2.ensures, c.before.before.flag-at2.ensures, c.before.flag-at3.ensures, c.flag-at4.ensures)))
+    simp (lock.before.byte_at.ensures, lock.flag_at.ensures, c.before.before.before.before.number_at.ensures, c.before.before.before.number_at-2.ensures, c.before.before.flag_at-2.ensures, c.before.flag_at-3.ensures, c.flag_at-4.ensures)))

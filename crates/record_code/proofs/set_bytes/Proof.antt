@@ -17,8 +17,8 @@ keys-sized s = search rules
 kads-sized : (s : tie.Start) → Sized s.args.set.fields.kads
 kads-sized s = (search rules, search rules)
 
-pub set-bytes-spec : {M : Type 1} → statement M
-set-bytes-spec =
+pub set_bytes_spec : {M : Type 1} → statement M
+set_bytes_spec =
     tie.close
     (tie.spec
     (λ c κs. search rules)
@@ -45,4 +45,4 @@ set-bytes-spec =
     let keys = last.before.before in
     let head = keys.before.before.before in
     let start = head.before in
-    set-stored start.args.set (key-sized start) (keys-sized start) (kads-sized start) head.set-head.ensures keys.supplemental-bytes.ensures last.kads-bytes.ensures first.put.ensures second.put2.ensures third.put3.ensures fourth.put4.ensures))
+    set-stored start.args.set (key-sized start) (keys-sized start) (kads-sized start) head.set_head-head.ensures keys.supplemental_bytes-keys.ensures last.kads_bytes-last.ensures first.put.ensures second.put-2.ensures third.put-3.ensures fourth.put-4.ensures))

@@ -12,8 +12,8 @@ use Rattle.record_code.proofs.supplemental_bytes.Tie as tie
 sized : (s : tie.Start) → length s.args.s.keys ≡ supplemental_size
 sized s = search rules
 
-pub supplemental-bytes-spec : {M : Type 1} → statement M
-supplemental-bytes-spec =
+pub supplemental_bytes_spec : {M : Type 1} → statement M
+supplemental_bytes_spec =
     tie.close
     (tie.spec
     (λ c. search rules)
@@ -27,4 +27,4 @@ supplemental-bytes-spec =
     let first = second.before.before.before.before in
     let start = first.before.before.before.before in
     let s = start.args.s in
-    fill-ends (fill_more (fill_more (fill-starts (replicate 129 0)) (s.count ∷ []) first.put.ensures 1 refl) s.keys second.put2.ensures 129 (omega (arith, sized start))) refl))
+    fill-ends (fill_more (fill_more (fill-starts (replicate 129 0)) (s.count ∷ []) first.put.ensures 1 refl) s.keys second.put-2.ensures 129 (omega (arith, sized start))) refl))

@@ -10,11 +10,11 @@ use Rattle.reply_16.proofs.give_read.Statement.{statement}
 use Rattle.reply_16.proofs.give_read.Tie as tie
 
 -- the record has its places
-sized : (c : tie.After-read) → length c.before.before.args.r.device.sets ≡ place_count
+sized : (c : tie.After-read-outcome) → length c.before.before.args.r.device.sets ≡ place_count
 sized c = search (rules, sized-field)
 
-pub give-read-spec : {M : Type 1} → statement M
-give-read-spec =
+pub give_read_spec : {M : Type 1} → statement M
+give_read_spec =
     tie.close
     (tie.spec
     (λ c κs. search rules)
@@ -29,4 +29,4 @@ give-read-spec =
     let made = value.before.before in
     let a = made.before.before.args in
     let l : length a.r.device.sets ≡ place_count = sized made in
-    given-as (read-given (worded a.r) a.n a.block (omega arith) (omega arith) made.read.ensures value.read-value-of.ensures) gave.give.ensures))
+    given-as (read-given (worded a.r) a.n a.block (omega arith) (omega arith) made.read-outcome.ensures value.read_value_of.ensures) gave.give.ensures))

@@ -11,11 +11,11 @@ use Rattle.reply_16.proofs.give_record.Statement.{statement}
 use Rattle.reply_16.proofs.give_record.Tie as tie
 
 -- how many bytes there are
-sized : (c : tie.After-record-bytes) → length c.record-bytes.result ≡ record_size nexus_count place_count
+sized : (c : tie.After-record_bytes-bytes) → length c.record_bytes-bytes.result ≡ record_size nexus_count place_count
 sized c = search rules
 
-pub give-record-spec : {M : Type 1} → statement M
-give-record-spec =
+pub give_record_spec : {M : Type 1} → statement M
+give_record_spec =
     tie.close
     (tie.spec
     (λ c κs. search rules)
@@ -25,4 +25,4 @@ give-record-spec =
     (λ c.
     let gave = c.before.before in
     let made = gave.before.before.before in
-    given-as (record-given (worded made.before.before.args.r) made.record-bytes.ensures) gave.give.ensures))
+    given-as (record-given (worded made.before.before.args.r) made.record_bytes-bytes.ensures) gave.give.ensures))

@@ -10,11 +10,11 @@ use Rattle.reply_16.proofs.give_write.Statement.{statement}
 use Rattle.reply_16.proofs.give_write.Tie as tie
 
 -- the record has its places
-sized : (c : tie.After-write) → length c.before.before.args.r.device.sets ≡ place_count
+sized : (c : tie.After-write-outcome) → length c.before.before.args.r.device.sets ≡ place_count
 sized c = search (rules, sized-field)
 
-pub give-write-spec : {M : Type 1} → statement M
-give-write-spec =
+pub give_write_spec : {M : Type 1} → statement M
+give_write_spec =
     tie.close
     (tie.spec
     (λ c κs. search rules)
@@ -29,4 +29,4 @@ give-write-spec =
     let made = value.before.before in
     let a = made.before.before.args in
     let l : length a.r.device.sets ≡ place_count = sized made in
-    given-as (write-given (worded a.r) a.n a.supported (omega arith) (omega arith) made.write.ensures value.value_of_lem.ensures) gave.give.ensures))
+    given-as (write-given (worded a.r) a.n a.supported (omega arith) (omega arith) made.write-outcome.ensures value.value_of.ensures) gave.give.ensures))

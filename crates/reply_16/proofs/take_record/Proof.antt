@@ -10,14 +10,14 @@ use Rattle.reply_16.proofs.take_record.Statement.{statement}
 use Rattle.reply_16.proofs.take_record.Tie as tie
 
 -- the record has its nexuses and places
-nexuses : (c : tie.After-load) → length c.before.before.args.r.device.nexuses ≡ nexus_count
+nexuses : (c : tie.After-load-loaded) → length c.before.before.args.r.device.nexuses ≡ nexus_count
 nexuses c = search (rules, sized-field)
 
-places : (c : tie.After-load) → length c.before.before.args.r.device.sets ≡ place_count
+places : (c : tie.After-load-loaded) → length c.before.before.args.r.device.sets ≡ place_count
 places c = search (rules, sized-field)
 
-pub take-record-spec : {M : Type 1} → statement M
-take-record-spec =
+pub take_record_spec : {M : Type 1} → statement M
+take_record_spec =
     tie.close
     (tie.spec
     (λ c κs. search rules)
@@ -25,9 +25,9 @@ take-record-spec =
     (λ c.
     let got = c.before.before.before in
     let a = got.before.before.args in
-    take-refused (worded a.r) a.bytes.now (nexuses got) (places got) got.load.ensures _ (not-true _ c.before.if1.true) c.reply-with.ensures)
+    take-refused (worded a.r) a.bytes.now (nexuses got) (places got) got.load-loaded.ensures _ (not-true _ c.before.if-not-loaded.true) c.reply_with.ensures)
     (λ c κs. search rules)
     (λ c.
     let got = c.before.before.before.before in
     let a = got.before.before.args in
-    take_done (worded a.r) a.bytes.now (nexuses got) (places got) got.load.ensures _ (not-false _ c.before.before.if1.false) c.reply-with2.ensures))
+    take_done (worded a.r) a.bytes.now (nexuses got) (places got) got.load-loaded.ensures _ (not-false _ c.before.before.if-not-loaded.false) c.reply_with-2.ensures))

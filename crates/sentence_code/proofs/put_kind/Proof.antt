@@ -8,11 +8,11 @@ use Rattle.sentence_code.proofs.put_kind.Statement.{statement}
 use Rattle.sentence_code.proofs.put_kind.Tie as tie
 
 -- what the kind's name holds
-held : (c : tie.After-name-of) → Named c.before.before.args.kind c.name_of.result
-held c = name-held c.before.before.args.kind c.name_of.ensures
+held : (c : tie.After-name_of-name) → Named c.before.before.args.kind c.name_of-name.result
+held c = name-held c.before.before.args.kind c.name_of-name.ensures
 
-pub put-kind-spec : {M : Type 1} → statement M
-put-kind-spec =
+pub put_kind_spec : {M : Type 1} → statement M
+put_kind_spec =
     tie.close
     (tie.spec
     (λ c κs. search rules)
@@ -22,5 +22,5 @@ put-kind-spec =
     (λ c. search rules)
     (λ c.
     let h = held c.before.before.before.before.before.before in
-    let words = c.before.before.put-words.ensures in
+    let words = c.before.before.put_words.ensures in
     (put_as h.taken words, omega (arith, words.tells, h.short))))

@@ -8,21 +8,21 @@ use Rattle.sentence_code.proofs.put_told.Statement.{statement}
 use Rattle.sentence_code.proofs.put_told.Tie as tie
 
 -- the number has at most 20 digits
-few : (c : tie.After-put-decimal) → c.put-decimal.result ≤ 20
-few c = let a = c.before.before.before.before.before.before.before.before in omega (arith, c.put-decimal.ensures.0, decimal-20 a.args.n (omega (arith, a.well-formed)))
+few : (c : tie.After-put_decimal-digits) → c.put_decimal-digits.result ≤ 20
+few c = let a = c.before.before.before.before.before.before.before.before in omega (arith, c.put_decimal-digits.ensures.0, decimal-20 a.args.n (omega (arith, a.well_formed)))
 
-pub put-told-spec : {M : Type 1} → statement M
-put-told-spec =
+pub put_told_spec : {M : Type 1} → statement M
+put_told_spec =
     tie.close
     (tie.spec
     (λ c κs. search rules)
     (λ c κs. search rules)
-    (λ c. omega (arith, few c.before.before, c.before.before.before.before.before.before.put-words.ensures.tells, c.before.before.before.before.before.before.before.before.before.before.requires.0, c.before.before.before.before.before.before.before.before.before.before.requires.1))
+    (λ c. omega (arith, few c.before.before, c.before.before.before.before.before.before.put_words-to.ensures.tells, c.before.before.before.before.before.before.before.before.before.before.requires.0, c.before.before.before.before.before.before.before.before.before.before.requires.1))
     (λ c. search rules)
     (λ c.
     let a = c.before.before.before.before.before.before.before.before.before.before.args in
-    let d = c.before.before.put-decimal.ensures in
-    let words = c.before.before.before.before.before.before.put-words.ensures in (
+    let d = c.before.before.put_decimal-digits.ensures in
+    let words = c.before.before.before.before.before.before.put_words-to.ensures in (
       put_then words (put_is (decimal a.n) (omega (arith, d.0)) d.1),
       omega (arith, few c.before.before, words.tells),
     )))

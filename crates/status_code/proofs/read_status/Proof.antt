@@ -19,13 +19,13 @@ use Rattle.status_code.proofs.read_status.Statement.{statement}
 use Rattle.status_code.proofs.read_status.Tie as tie
 
 -- past the first test the length is right
-abbrev page : tie.Else1 → List ℕ
+abbrev page : tie.Else-is_length_wrong → List ℕ
 page c = c.before.before.before.args.page.now
 
-right : (c : tie.Else1) → length_wrong descriptors_from (page c) ≡ false
-right c = sym c.before.is-length-wrong.ensures ∙ c.if1.false
+right : (c : tie.Else-is_length_wrong) → length_wrong descriptors_from (page c) ≡ false
+right c = sym c.before.is_length_wrong.ensures ∙ c.if-is_length_wrong.false
 
-has-head : (c : tie.Else1) → descriptors_from ≤ length (page c)
+has-head : (c : tie.Else-is_length_wrong) → descriptors_from ≤ length (page c)
 has-head c = long (page c) (right c)
 
 -- the list that is read is the rest of the page
@@ -40,22 +40,22 @@ end_read p e = ap (λ (r : Listed). descriptors_from + r.good) (rest_read p e)
 few-read : (p : List ℕ) {r : Listed} → r ≡ read_kads (take (length p - descriptors_from) (drop descriptors_from p)) → r.good ≤ 55
 few-read p e = rw e (list-few _ (take (length p - descriptors_from) (drop descriptors_from p)) no_kads)
 
-pub read-status-spec : {M : Type 1} → statement M
-read-status-spec =
+pub read_status_spec : {M : Type 1} → statement M
+read_status_spec =
     tie.close
     (tie.spec
     (λ c κs. search rules)
     (λ c κs. search rules)
     (λ c.
     let at_length = c.before.before in
-    c.refuse.ensures ∙ sym (refused-length at_length.before.before.args.page.now (sym at_length.is-length-wrong.ensures ∙ c.before.if1.true)))
+    c.refuse.ensures ∙ sym (refused-length at_length.before.before.args.page.now (sym at_length.is_length_wrong.ensures ∙ c.before.if-is_length_wrong.true)))
     (λ c κs. has-head c)
-    (λ c. let before = c.if2.true in omega arith)
+    (λ c. let before = c.if-head-lt-DESCRIPTORS_FROM.true in omega arith)
     (λ c κs. search rules)
     (λ c.
     let at_head = c.before.before in
     let l = at_head.before in
-    c.refuse2.ensures ∙ sym (head-breaks (page l) (right l) _ at_head.head-fault.ensures c.before.if2.true))
+    c.refuse-then-head-lt-DESCRIPTORS_FROM.ensures ∙ sym (head-breaks (page l) (right l) _ at_head.head_fault-head.ensures c.before.if-head-lt-DESCRIPTORS_FROM.true))
     (λ c. has-head c.before.before)
     (λ c. has-head c.before.before)
     (λ c. search rules)
@@ -63,20 +63,20 @@ read-status-spec =
     (λ c. search rules)
     (λ c.
     let at-list = c.before.before in
-    let few = few-read (page at-list.before.before.before.before) at-list.read.ensures.0 in
+    let few = few-read (page at-list.before.before.before.before) at-list.read-list.ensures.0 in
     omega arith)
     (λ c κs. search rules)
     (λ c.
     let at-list = c.before.before.before in
     let past = at-list.before.before in
     let l = past.before.before in
-    c.refuse3.ensures
-    ∙ sym (list-breaks (page l) (right l) _ _ past.before.head-fault.ensures past.if2.false (end_read (page l) at-list.read.ensures.0) c.before.if3.true))
+    c.refuse-then-end-page.ensures
+    ∙ sym (list-breaks (page l) (right l) _ _ past.before.head_fault-head.ensures past.if-head-lt-DESCRIPTORS_FROM.false (end_read (page l) at-list.read-list.ensures.0) c.before.if-end-page.true))
     (λ c κs. has-head c.before.before.before.before.before.before.before)
     (λ c.
     let at-list = c.before.before.before.before in
     let past = at-list.before.before in
     let l = past.before.before in
-    let made = at-list.read.ensures.0 in
-    ap (λ (s : Status). read_of s) (c.values-with.ensures ∙ ap (λ (r : Listed). values_with (page l) r.kads) (rest_read (page l) made))
-    ∙ sym (all-good (page l) (right l) _ _ past.before.head-fault.ensures past.if2.false (end_read (page l) made) c.before.before.if3.false)))
+    let made = at-list.read-list.ensures.0 in
+    ap (λ (s : Status). read_of s) (c.values_with.ensures ∙ ap (λ (r : Listed). values_with (page l) r.kads) (rest_read (page l) made))
+    ∙ sym (all-good (page l) (right l) _ _ past.before.head_fault-head.ensures past.if-head-lt-DESCRIPTORS_FROM.false (end_read (page l) made) c.before.before.if-end-page.false)))

@@ -2,8 +2,8 @@ use borrow.Author.Rules.{rules}
 use Rattle.status_code.proofs.values_with.Statement.{statement}
 use Rattle.status_code.proofs.values_with.Tie as tie
 
-pub values-with-spec : {M : Type 1} → statement M
-values-with-spec =
+pub values_with_spec : {M : Type 1} → statement M
+values_with_spec =
     tie.close
     (tie.spec
     (λ c. search rules)
@@ -20,4 +20,4 @@ values-with-spec =
     (λ c κs. search rules)
     (λ c.
     let at-12 = c.before.before.before.before.before.before.before.before in
-    simp (at-12.before.before.status-byte-4.ensures, at-12.status-byte-12.ensures, c.number.ensures)))
+    simp (at-12.before.before.status_byte_4-byte4.ensures, at-12.status_byte_12-byte12.ensures, c.number.ensures)))

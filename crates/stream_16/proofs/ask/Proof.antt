@@ -15,15 +15,15 @@ use Rattle.stream_16.proofs.ask.Statement.{statement}
 use Rattle.stream_16.proofs.ask.Tie as tie
 
 -- the record has its nexuses and places
-nexuses : (c : tie.After-enum-told) → length c.before.before.before.before.args.r.device.nexuses ≡ nexus_count
+nexuses : (c : tie.In-PowerOn) → length c.before.before.before.args.r.device.nexuses ≡ nexus_count
 nexuses c = search (rules, sized-field)
 
-places : (c : tie.After-enum-told) → length c.before.before.before.before.args.r.device.sets ≡ place_count
+places : (c : tie.In-PowerOn) → length c.before.before.before.args.r.device.sets ≡ place_count
 places c = search (rules, sized-field)
 
-pub ask-spec : {M : Type 1} → statement M
+pub ask_spec : {M : Type 1} → statement M
 unfolding asked_reply
-ask-spec =
+ask_spec =
     tie.close
     (tie.spec
     (λ c. search rules)
@@ -45,40 +45,34 @@ ask-spec =
     (λ c κs. search rules)
     (λ c.
     let matched = c.before.before in
-    let a = matched.before.before.before.before.args in
-    asked-followed (worded a.r) a.page.now (part_from in_from a.size a.buffer.now) a.buffer.now {known = PowerOn} matched.enum_told.given.1
-    (kept _ _ _ refl (power-told (worded a.r) (nexuses matched) (places matched) c.before.power-on.ensures c.plain.ensures)))
+    let a = c.args in
+    asked-followed (worded a.r) a.page.now (part_from in_from a.size a.buffer.now) a.buffer.now {known = PowerOn} c.in-PowerOn.is
+    (kept _ _ _ refl (power-told (worded a.r) (nexuses matched) (places matched) c.power_on.ensures c.plain.ensures)))
     (λ c. search rules)
     (λ c.
-    let matched = c.before.before.before.before in
-    let a = matched.before.before.before.before.before.args in
-    asked-followed (worded a.r) a.page.now (part_from in_from a.size a.buffer.now) a.buffer.now {known = In _} matched.before.asked.given.1
-    c.before.before.give-in.ensures)
+    let a = c.args in
+    asked-followed (worded a.r) a.page.now (part_from in_from a.size a.buffer.now) a.buffer.now {known = In _} c.in-In.is
+    c.give_in.ensures)
     (λ c. search rules)
     (λ c.
-    let matched = c.before.before.before.before in
-    let a = matched.before.before.before.before.before.args in
-    asked-followed (worded a.r) a.page.now (part_from in_from a.size a.buffer.now) a.buffer.now {known = Out _} matched.before.asked2.given.1
-    c.before.before.give-out.ensures)
+    let a = c.args in
+    asked-followed (worded a.r) a.page.now (part_from in_from a.size a.buffer.now) a.buffer.now {known = Out _} c.in-Out.is
+    c.give_out.ensures)
     (λ c. search rules)
     (λ c.
-    let matched = c.before.before.before.before in
-    let a = matched.before.before.before.before.before.args in
-    asked-followed (worded a.r) a.page.now (part_from in_from a.size a.buffer.now) a.buffer.now {known = Write _ _} matched.before.asked3.given.1
-    c.before.before.give-write.ensures)
+    let a = c.args in
+    asked-followed (worded a.r) a.page.now (part_from in_from a.size a.buffer.now) a.buffer.now {known = Write _ _} c.in-Write.is
+    c.give_write.ensures)
     (λ c. search rules)
     (λ c.
-    let matched = c.before.before.before.before in
-    let a = matched.before.before.before.before.before.args in
-    asked-followed (worded a.r) a.page.now (part_from in_from a.size a.buffer.now) a.buffer.now {known = Read _ _} matched.before.asked4.given.1
-    c.before.before.give-read.ensures)
+    let a = c.args in
+    asked-followed (worded a.r) a.page.now (part_from in_from a.size a.buffer.now) a.buffer.now {known = Read _ _} c.in-Read.is
+    c.give_read.ensures)
     (λ c.
-    let matched = c.before.before in
-    let a = matched.before.before.before.before.args in
-    asked-followed (worded a.r) a.page.now (part_from in_from a.size a.buffer.now) a.buffer.now {known = UnitReset} matched.enum-told2.given.1
-    (kept _ _ _ refl (call-told (worded a.r) unit_reset c.before.unit-reset.ensures c.plain2.ensures)))
+    let a = c.args in
+    asked-followed (worded a.r) a.page.now (part_from in_from a.size a.buffer.now) a.buffer.now {known = UnitReset} c.in-UnitReset.is
+    (kept _ _ _ refl (call-told (worded a.r) unit_reset c.unit_reset.ensures c.plain-in-UnitReset.ensures)))
     (λ c.
-    let matched = c.before.before in
-    let a = matched.before.before.before.before.before.args in
-    asked-followed (worded a.r) a.page.now (part_from in_from a.size a.buffer.now) a.buffer.now {known = Happen _} matched.before.asked5.given.1
-    (kept _ _ _ refl (call-told (worded a.r) (happens _) c.before.happen.ensures c.plain3.ensures))))
+    let a = c.args in
+    asked-followed (worded a.r) a.page.now (part_from in_from a.size a.buffer.now) a.buffer.now {known = Happen _} c.in-Happen.is
+    (kept _ _ _ refl (call-told (worded a.r) (happens _) c.happen.ensures c.plain-in-Happen.ensures))))

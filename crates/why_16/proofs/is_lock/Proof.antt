@@ -20,8 +20,8 @@ none : (a : tie.Start) {asked : Asked} → a.args.asked ≡ asked → accepts a.
     → false ≡ accepts a.args.n (effect_by (state a.args.d) (call_of a.args.asked a.args.page.now) a.args.answer)
 none a {asked} e f = sym (other_none a.args.n (state a.args.d) (call_of asked a.args.page.now) a.args.answer f) ∙ told a e
 
-pub is-lock-spec : {M : Type 1} → statement M
-is-lock-spec =
+pub is_lock_spec : {M : Type 1} → statement M
+is_lock_spec =
     tie.close
     (tie.spec
     (λ c. search rules)
@@ -32,10 +32,10 @@ is-lock-spec =
     (λ c. search rules)
     (λ c. search rules)
     (λ c. search rules)
-    (λ c. none c.before.before.before c.enum_told.given.1 refl)
-    (λ c. none c.before.before.before c.enum-told2.given.1 refl)
-    (λ c. c.is-own-page.ensures ∙ told c.before.before.before.before.before c.before.before.asked.given.1)
-    (λ c. none c.before.before.before c.enum-told3.given.1 refl)
-    (λ c. none c.before.before.before c.enum-told4.given.1 refl)
-    (λ c. none c.before.before.before c.enum-told5.given.1 refl)
-    (λ c. none c.before.before.before c.enum-told6.given.1 refl))
+    (λ c. none c.before.before c.in-PowerOn.is refl)
+    (λ c. none c.before.before c.in-In.is refl)
+    (λ c. c.is_own_page.ensures ∙ told c.before.before.before c.in-Out.is)
+    (λ c. none c.before.before c.in-Write.is refl)
+    (λ c. none c.before.before c.in-Read.is refl)
+    (λ c. none c.before.before c.in-UnitReset.is refl)
+    (λ c. none c.before.before c.in-Happen.is refl))

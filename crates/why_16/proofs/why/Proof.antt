@@ -21,51 +21,51 @@ use Rattle.why_16.proofs.why.Statement.{statement}
 use Rattle.why_16.proofs.why.Tie as tie
 
 -- the recording is sound
-abbrev checked : tie.After-events-of → tie.After-is-sound-file
+abbrev checked : tie.After-events_of-all → tie.After-is_sound_file
 checked c = c.before.before.before.before.before
 
-sound : (c : tie.After-events-of) → sound_file (checked c).before.before.args.file.now ≡ true
-sound c = sym (checked c).is-sound-file.ensures ∙ not-false _ c.before.before.before.before.if1.false
+sound : (c : tie.After-events_of-all) → sound_file (checked c).before.before.args.file.now ≡ true
+sound c = sym (checked c).is_sound_file.ensures ∙ c.before.before.before.before.if-not-is_sound_file.false
 
 -- and has so many events
-counted : (c : tie.After-events-of) → (checked c).before.before.args.events ≤ (header (checked c).before.before.args.file.now).event_count
-counted c = omega (arith, ap (λ (h : Header). h.event_count) c.before.before.before.header_of.ensures, c.before.if2.false)
+counted : (c : tie.After-events_of-all) → (checked c).before.before.args.events ≤ (header (checked c).before.before.args.file.now).event_count
+counted c = omega (arith, ap (λ (h : Header). h.event_count) c.before.before.before.header_of-header.ensures, c.before.if-header-events.false)
 
 -- whose bytes are few
-held : (c : tie.After-events-of) → 8 * (checked c).before.before.args.events ≤ length (event_bytes (checked c).before.before.args.file.now)
+held : (c : tie.After-events_of-all) → 8 * (checked c).before.before.args.events ≤ length (event_bytes (checked c).before.before.args.file.now)
 held c = let file = (checked c).before.before.args.file.now in omega (arith, counted c, length-events file (sound-header file (sound c)))
 
-pub why-spec : {M : Type 1} → statement M
-why-spec =
+pub why_spec : {M : Type 1} → statement M
+why_spec =
     tie.close
     (tie.spec
     (λ c κs. search rules)
     (λ c κs. search rules)
     (λ c.
     let a = c.before.before.before.before.args in
-    c.refuse.ensures ∙ why-wrong nexus_count place_count a.file.now a.events a.nexus a.supported (sym c.before.before.is-sound-file.ensures ∙ not-true _ c.before.if1.true))
+    c.refuse.ensures ∙ why-wrong nexus_count place_count a.file.now a.events a.nexus a.supported (sym c.before.before.is_sound_file.ensures ∙ c.before.if-not-is_sound_file.true))
     (λ c κs. search rules)
     (λ c κs. search rules)
     (λ c.
     let a = c.before.before.before.before.before.before.before.args in
-    c.refuse2.ensures
-    ∙ why-above nexus_count place_count a.file.now a.events a.nexus a.supported (sym c.before.before.before.before.before.is-sound-file.ensures ∙ not-false _ c.before.before.before.before.if1.false)
-    (omega (arith, ap (λ (h : Header). h.event_count) c.before.before.before.header_of.ensures, c.before.if2.true)))
+    c.refuse-then-header-events.ensures
+    ∙ why-above nexus_count place_count a.file.now a.events a.nexus a.supported (sym c.before.before.before.before.before.is_sound_file.ensures ∙ c.before.before.before.before.if-not-is_sound_file.false)
+    (omega (arith, ap (λ (h : Header). h.event_count) c.before.before.before.header_of-header.ensures, c.before.if-header-events.true)))
     (λ c κs. search rules)
-    (λ c. omega (arith, held c, c.events-of.ensures.1, ap length c.events-of.ensures.0))
+    (λ c. omega (arith, held c, c.events_of-all.ensures.1, ap length c.events_of-all.ensures.0))
     (λ c κs. search rules)
     (λ c κs. search rules)
-    (λ c κs. omega (arith, ap length c.before.part.ensures, length-take (8 * (checked c.before.before).before.before.args.events) c.before.before.events-of.result.now, c.before.before.events-of.ensures.1))
+    (λ c κs. omega (arith, ap length c.before.part-first.ensures, length-take (8 * (checked c.before.before).before.before.args.events) c.before.before.events_of-all.result.now, c.before.before.events_of-all.ensures.1))
     (λ c κs. search rules)
     (λ c.
     let k = c.before.before.before.before.before in
     let a = (checked k).before.before.args in
     let file = a.file.now in
-    let first = c.before.before.before.before.part.ensures ∙ ap (λ (l : List ℕ). take (8 * a.events) l) k.events-of.ensures.0 in
-    let cause = c.before.before.cause-after.ensures
-    ∙ ap₂ (λ (e p : List ℕ). cause_of nexus_count place_count a.nexus a.supported (calls e p)) first c.before.before.before.pages-of.ensures
+    let first = c.before.before.before.before.part-first.ensures ∙ ap (λ (l : List ℕ). take (8 * a.events) l) k.events_of-all.ensures.0 in
+    let cause = c.before.before.cause_after-cause.ensures
+    ∙ ap₂ (λ (e p : List ℕ). cause_of nexus_count place_count a.nexus a.supported (calls e p)) first c.before.before.before.pages_of.ensures
     ∙ ap (cause_of nexus_count place_count a.nexus a.supported) (calls-take (page_bytes file) a.events (event_bytes file) (held k)) in
-    let event = c.event-at.ensures ∙ ap (λ (l : List ℕ). event_at l c.before.before.cause-after.result.touch.at) k.events-of.ensures.0 in
-    ap (λ (e : Entry). record { verdict = Done; cause = c.before.before.cause-after.result; kind = e.kind; nexus = e.nexus }) event
+    let event = c.event_at-e.ensures ∙ ap (λ (l : List ℕ). event_at l c.before.before.cause_after-cause.result.touch.at) k.events_of-all.ensures.0 in
+    ap (λ (e : Entry). record { verdict = Done; cause = c.before.before.cause_after-cause.result; kind = e.kind; nexus = e.nexus }) event
     ∙ ap (reason_by (event_bytes file)) cause
     ∙ why-taken nexus_count place_count file a.events a.nexus a.supported (sound k) (counted k)))

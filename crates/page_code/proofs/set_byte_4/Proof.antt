@@ -1,8 +1,0 @@
-use Prim.Native.Nat.{◌/◌}
-use native.Mathlib.Nat.{div-one}
-use lib.Bits.{and_mask}
-use Rattle.page_code.proofs.set_byte_4.Statement.{statement}
-use Rattle.page_code.proofs.set_byte_4.Tie as tie
-
-pub set-byte-4-spec : {M : Type 1} → statement M
-set-byte-4-spec = tie.close (tie.spec (λ c. let b = c.args.b in simp (and_mask (b / 32) 3, and_mask (b / 2) 4, and_mask b 1, div-one b)))

@@ -1,0 +1,4 @@
+use Rattle.record_code.proofs.set_head.Goals as goal
+
+pub returns : goal.returns
+returns c = simp c.four-number.ensures

@@ -1,0 +1,9 @@
+use Prim.Native.Nat.{◌/◌, ◌%◌}
+use mathlib.Core.Path.{◌≡◌}
+use native.Mathlib.Nat.{div-one}
+use native.Mathlib.Omega.{arith}
+use lib.Bits.{and_mask}
+use Rattle.status_code.proofs.status_byte_4.Goals as goal
+
+pub returns : goal.returns
+returns c = let b = c.args.b in let e : b / 32 % 8 ≡ b / 32 = omega arith in simp (and_mask (b / 8) 2, and_mask b 3, e, div-one b)

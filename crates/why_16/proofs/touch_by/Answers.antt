@@ -1,0 +1,5 @@
+use borrow.Author.Rules.{rules}
+use Rattle.why_16.proofs.touch_by.Goals as goal
+
+pub returns : goal.returns
+returns c = simp c.deed_at.ensures
