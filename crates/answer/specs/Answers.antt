@@ -1,5 +1,6 @@
 -- Document 01, "Answer numbers": the table, a row for each answer; with the rows that document 02 adds.
-use Rattle.std.specs.Prelude.{ℕ, Bool, eqb}
+use Rattle.std.specs.Prelude.{ℕ, Bool, eqb, Result, Ok, Err, ⊤}
+use Rattle.arrays.specs.Base.{when◌then◌else◌}
 use Rattle.answer.specs.declared.Answer.{Answer}
 use Rattle.answer.specs.declared.Answer.TheVariants.{Done, NotWellFormed, NexusAbove, ChangedByAnotherNexus, ChangedByVendorEvent, ProtocolNotSupported, PageNotSupported, PageLengthWrong, FieldWrong, FifthSupplementalKey, NoPlaceForLocal, KeyInstanceChanged, ParametersNotUsable, PlaceAbove, BlockNotKnown, UnableToDecrypt, NotEncrypted, KeyIncorrect}
 use Rattle.answer.specs.declared.Sense.{Sense}
@@ -56,3 +57,7 @@ is_done a = eqb (number_of a) 0
 -- answer 8
 abbrev pub is_field_wrong : Answer → Bool
 is_field_wrong a = eqb (number_of a) 8
+
+-- a check as the code gives it: passed, or its answer
+abbrev pub passed : Answer → Result ⊤ Answer
+passed a = when is_done a then Ok tt else Err a

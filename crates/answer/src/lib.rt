@@ -2,6 +2,7 @@
 // faulty byte.
 #![tactic(auto)]
 
+// Done is one of them, as document 01's table has row 0: a check that may find no fault gives a Result<(), Answer>.
 #[derive(Clone, Copy)]
 pub enum Answer {
     Done,
@@ -25,7 +26,7 @@ pub enum Answer {
     KeyIncorrect,
 }
 
-// Sense key, additional sense code and its qualifier; zeros where an answer has none.
+// Sense key, additional sense code and its qualifier; zeros where an answer has none: NONE, a constant, since rows of the table are.
 #[derive(Clone, Copy)]
 pub struct Sense {
     pub key: u8,

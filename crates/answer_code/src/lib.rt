@@ -6,8 +6,7 @@ ghost use Rattle.answer.specs.Answers.{row_of, sense_of, is_done};
 
 use answer::{Answer, Row, Sense};
 
-// The answer's row in document 01's table; that of 8 takes the byte from the answer. A function for it would cost a refused page a copy of the
-// record.
+// The answer's row in document 01's table; that of 8 takes the byte from the answer.
 pub fn row_of(answer: Answer) -> Row
     ensures { result ≡ row_of answer }
 {
@@ -20,11 +19,10 @@ pub fn row_of(answer: Answer) -> Row
         Answer::ProtocolNotSupported => Row::PROTOCOL_NOT_SUPPORTED,
         Answer::PageNotSupported => Row::PAGE_NOT_SUPPORTED,
         Answer::PageLengthWrong => Row::PAGE_LENGTH_WRONG,
-        Answer::FieldWrong(byte) => {
-            let mut row = Row::FIELD_WRONG;
-            row.faulty_byte = byte;
-            row
-        }
+        Answer::FieldWrong(byte) => Row {
+            faulty_byte: byte,
+            ..Row::FIELD_WRONG
+        },
         Answer::FifthSupplementalKey => Row::FIFTH_SUPPLEMENTAL_KEY,
         Answer::NoPlaceForLocal => Row::NO_PLACE_FOR_LOCAL,
         Answer::KeyInstanceChanged => Row::KEY_INSTANCE_CHANGED,
@@ -41,14 +39,12 @@ pub fn row_of(answer: Answer) -> Row
 pub fn sense_of(answer: Answer) -> Sense
     ensures { result ≡ sense_of answer }
 {
-    let row = row_of(answer);
-    row.sense
+    row_of(answer).sense
 }
 
 // Answer 0: the call was carried out.
 pub fn is_done(answer: Answer) -> bool
     ensures { result ≡ is_done answer }
 {
-    let row = row_of(answer);
-    row.number == 0
+    matches!(answer, Answer::Done)
 }

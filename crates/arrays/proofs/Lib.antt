@@ -1,6 +1,7 @@
 pub mod Base
 pub mod Counting
 pub mod Laws
+pub mod Chains
 pub mod Loops
 pub mod Appending
 pub mod Words

@@ -1,5 +1,6 @@
 -- A quiet call is answered as the drive answers it, and leaves the record as it is.
 -- Assumes nothing.
+use Rattle.std.specs.Prelude.{Some}
 use Prim.Native.Nat.{ℕ}
 use mathlib.Core.Path.{◌≡◌, refl, sym, ap, ◌∙◌}
 use mathlib.Core.Bool.{Bool, true, false, ◌||◌}
@@ -15,7 +16,6 @@ use Rattle.device.specs.Record.{State, nexus_at}
 use Rattle.device.specs.Selecting.{selected_set}
 use Rattle.marks.specs.Marks.{keeps_marks, changes}
 use Rattle.marks.proofs.Changes.{unchanged, changes-left}
-use Rattle.marks.specs.declared.Actor.TheVariants.{Acting}
 use Rattle.drive.specs.declared.Command.{Command}
 use Rattle.drive.specs.declared.Block.{Block}
 use Rattle.drive.specs.Calls.{Call, security_in, write, read, sender_of, is_power_up}
@@ -61,7 +61,7 @@ or-none false x y = refl
 
 -- a call that changes at most the marks of its sender, where that is what it does when it is carried out
 pub record Marking (rule : Telling) (s : State) (call : Call) (n : ℕ) (change : Change) : Type 0 where
-  pub sender : sender_of call ≡ Acting n
+  pub sender : sender_of call ≡ Some n
   pub done : carried_out rule s (doing s call) ≡ changes s n change
   pub running : is_power_up call ≡ false
 
@@ -80,11 +80,11 @@ module _ (rule : Telling) (formed : Bool) (s : State) where
     running = m.running;
   }
 
-  in-marks : (call : Call) (n : ℕ) → sender_of call ≡ Acting n → doing s call ≡ marks n Registered → is_power_up call ≡ false → Marking rule s call n Registered
+  in-marks : (call : Call) (n : ℕ) → sender_of call ≡ Some n → doing s call ≡ marks n Registered → is_power_up call ≡ false → Marking rule s call n Registered
   unfolding carried_out changed_by
   in-marks call n e d u = record { sender = e; done = ap (carried_out rule s) d; running = u }
 
-  block-marks : (call : Call) (n : ℕ) → sender_of call ≡ Acting n → doing s call ≡ nothing → is_power_up call ≡ false → Marking rule s call n Unchanged
+  block-marks : (call : Call) (n : ℕ) → sender_of call ≡ Some n → doing s call ≡ nothing → is_power_up call ≡ false → Marking rule s call n Unchanged
   unfolding carried_out changed_by
   block-marks call n e d u = record { sender = e; done = ap (carried_out rule s) d ∙ sym (unchanged s n); running = u }
 

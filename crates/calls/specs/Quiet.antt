@@ -12,7 +12,7 @@ use Rattle.device.specs.declared.Nexus.{Nexus}
 use Rattle.device.specs.declared.Set.{Set}
 use Rattle.marks.specs.Marks.{keeps_marks}
 use Rattle.status.specs.Pages.{is_in_page}
-use Rattle.drive.specs.Restoring.{restored}
+use Rattle.drive.specs.Restoring.{ruled_answer, restored}
 use Rattle.drive.specs.Checks.{first_of, heard, commanded, permitted}
 use Rattle.calls.specs.declared.Asked.{Asked}
 use Rattle.calls.specs.declared.Asked.TheVariants.{PowerOn, In, Out, Write, Read, UnitReset, Happen}
@@ -53,6 +53,6 @@ quietly formed nexuses nexus set (Out command) = not_quiet
 quietly formed nexuses nexus set (Write n supported) =
     quiet_by formed nexus.marks Unchanged (first_of (heard nexuses n nexus.marks ++ permitted nexus set supported))
 quietly formed nexuses nexus set (Read n block) =
-    quiet_by formed nexus.marks Unchanged (first_of (heard nexuses n nexus.marks ++ (restored set block).answer ∷ []))
+    quiet_by formed nexus.marks Unchanged (first_of (heard nexuses n nexus.marks ++ ruled_answer (restored set block) ∷ []))
 quietly formed nexuses nexus set UnitReset = not_quiet
 quietly formed nexuses nexus set (Happen event) = not_quiet

@@ -5,7 +5,8 @@ use answer::{Answer, Change};
 use drive::{Block, Command};
 use places::Event;
 
-// The kinds: those of document 02, request 3, which are the stream's too. 0 is power-on's.
+// The kinds: those of document 02, request 3, which are the stream's too. 0 is power-on's. Numbers, since an event's or a command's kind may be
+// any byte; what one asks is an Asked.
 pub const IN: u8 = 1;
 
 pub const OUT: u8 = 2;
@@ -41,7 +42,7 @@ pub enum Asked {
 }
 
 // Of IN, a write or a read, by its sender and the set that it uses alone: whether it leaves the record as it is, its answer, and what it
-// changes of its sender's marks.
+// changes of its sender's marks. The answer and the change are known where it isn't quiet, too.
 #[derive(Clone, Copy)]
 pub struct Quiet {
     pub quiet: bool,

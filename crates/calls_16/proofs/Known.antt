@@ -1,5 +1,6 @@
 -- Any call, where check 1 was made before.
 -- Assumes nothing.
+use Rattle.std.specs.Prelude.{Some}
 use mathlib.Core.Path.{◌≡◌, refl, sym, ap, ap₂, ◌∙◌}
 use mathlib.Core.Bool.{Bool, true, false, ◌||◌}
 use mathlib.Core.List.{List}
@@ -11,7 +12,6 @@ use Rattle.answer.specs.declared.Answer.TheVariants.{NotWellFormed}
 use Rattle.device.specs.Record.{State, power_on}
 use Rattle.device.specs.Words.{Worded, with_words, keeping}
 use Rattle.marks.specs.Marks.{changes}
-use Rattle.marks.specs.declared.Actor.TheVariants.{Acting}
 use Rattle.sizes_16.specs.Sizes.{nexus_count, place_count}
 use Rattle.drive.specs.declared.Command.{Command}
 use Rattle.drive.specs.declared.Block.{Block}
@@ -21,6 +21,7 @@ use Rattle.drive.specs.Effects.{doing, effect_by}
 use Rattle.drive.specs.After.{by_number, changed_by, carried_out}
 use Rattle.drive.specs.Records.{held_after}
 use Rattle.drive.proofs.Records.{held-marks}
+use Rattle.drive_16.specs.declared.Outcome.{Outcome}
 use Rattle.drive_16.specs.Outcomes.{outcome_with, powered_on, outcome_by, known_outcome, unchanged}
 use Rattle.calls.specs.Asking.{call_of, is_power_on}
 use Rattle.calls_16.specs.Sights.{sighted, marked_by}
@@ -48,7 +49,7 @@ quiet-found formed s asked size {sight = sight} e f h =
 
 -- IN, a write and a read
 module _ (r : Worded) where
-  remarked : {n : ℕ} {call : Call} {q : Quiet} → sender_of call ≡ Acting n → keeping r.words (carried_out by_number r.state (doing r.state call)) ≡ held_after r (doing r.state call)
+  remarked : {n : ℕ} {call : Call} {q : Quiet} → sender_of call ≡ Some n → keeping r.words (carried_out by_number r.state (doing r.state call)) ≡ held_after r (doing r.state call)
       → Remarks by_number r.state n call q → outcome_with (keeping r.words (changes r.state n q.change)) q.answer ≡ known_outcome r call
   unfolding outcome_by
   remarked {n} {call} e d m =
@@ -89,3 +90,13 @@ module _ (formed : Bool) (r : Worded) (asked : Asked) (page : List ℕ) where
 
   pub perform-unformed : (formed || is_power_on asked) ≡ false → unchanged r NotWellFormed ≡ outcome_by r (call_of asked page) (answer_where formed r.state (call_of asked page))
   perform-unformed f = unformed-kept asked ∙ ap (outcome_by r (call_of asked page)) (where-unformed f)
+
+  -- one that check 1 lets pass, whichever it is
+  pub performed : {known : Asked} {o : Outcome} → (formed || is_power_on asked) ≡ true → asked ≡ known → o ≡ known_outcome r (call_of known page)
+      → o ≡ outcome_by r (call_of asked page) (answer_where formed r.state (call_of asked page))
+  performed t e h = h ∙ ap (λ (x : Asked). known_outcome r (call_of x page)) (sym e) ∙ ap (outcome_by r (call_of asked page)) (where-known t)
+
+  -- an IN, a write or a read
+  pub marked_performed : {known : Asked} {o : Outcome} → (formed || is_power_on asked) ≡ true → asked ≡ known → marked_by r known ≡ known_outcome r (call_of known page) → o ≡ marked_by r asked
+      → o ≡ outcome_by r (call_of asked page) (answer_where formed r.state (call_of asked page))
+  marked_performed t e m h = performed t e (h ∙ ap (marked_by r) e ∙ m)

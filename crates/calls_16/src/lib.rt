@@ -26,10 +26,11 @@ pub fn look(d: Device, n: u8) -> Sight
     ensures { result ≡ sighted (state d) n }
 {
     let nexus = device_16::nexus_at(d, n as usize);
-    let sets = d.sets;
-    let place = device_16::place_of(nexus, n as usize, sets);
-    let set = sets[place];
-    Sight { nexus, set }
+    let place = device_16::place_of(nexus, n as usize, d.sets);
+    Sight {
+        nexus,
+        set: d.sets[place],
+    }
 }
 
 // IN, a write or a read, after check 1: it changes its sender's marks alone. IN shows no page.
@@ -39,12 +40,10 @@ fn mark(r: Record, asked: Asked) -> Outcome
     let n = calls_code::sender_number(asked);
     let sight = look(r.device, n);
     let quiet = calls_code::quietly(true, NEXUSES, sight.nexus, sight.set, asked);
-    let answer = quiet.answer;
-    let change = quiet.change;
     Outcome {
-        after: marks_16::change_marks_in(r, n, change),
-        answer,
-        sense: answer_code::sense_of(answer),
+        after: marks_16::change_marks_in(r, n, quiet.change),
+        answer: quiet.answer,
+        sense: answer_code::sense_of(quiet.answer),
     }
 }
 
@@ -61,10 +60,8 @@ pub fn perform(r: Record, formed: bool, asked: Asked, page: &[u8]) -> Outcome
     }
     match asked {
         Asked::PowerOn => drive_16::power_on(),
-        Asked::In(_) => mark(r, asked),
+        Asked::In(_) | Asked::Write(_, _) | Asked::Read(_, _) => mark(r, asked),
         Asked::Out(command) => drive_16::security_out_known(r, command, page),
-        Asked::Write(_, _) => mark(r, asked),
-        Asked::Read(_, _) => mark(r, asked),
         Asked::UnitReset => drive_16::unit_reset_known(r),
         Asked::Happen(event) => drive_16::happen_known(r, event),
     }

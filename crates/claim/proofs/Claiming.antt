@@ -4,6 +4,7 @@ use Prim.Native.Nat.{ℕ, ◌*◌, ◌^◌, ◌≤◌, ◌<◌}
 use mathlib.Core.Path.{◌≡◌, sym, ap, ◌∙◌}
 use mathlib.Core.Bool.{true, false}
 use mathlib.Core.List.{List, [], ◌++◌}
+use Rattle.std.specs.Prelude.{Ok, Err}
 use native.Mathlib.Omega.{arith}
 use native.Mathlib.Nat.{mul-le-mul}
 use borrow.Author.Tests.{le-leb, lt-leb}
@@ -62,22 +63,22 @@ module _ (nexuses places rate : ℕ) (file : List ℕ) where
 
   module _ (buffer : List ℕ) where
     -- a refused claim leaves the buffer
-    pub claims-refused : (verdict : Verdict) → claim_verdict rate file ≡ verdict → is_taken verdict ≡ false → Claims nexuses places rate file buffer (record { verdict = verdict; length = 0 }) buffer
+    pub claims-refused : (verdict : Verdict) → claim_verdict rate file ≡ verdict → is_taken verdict ≡ false → Claims nexuses places rate file buffer (Err verdict) buffer
     claims-refused verdict e f =
         let none = nothing-printed e f in
         record {
-          claimed = λ i. record { verdict = sym e i; length = ap length (sym none) i };
+          claimed = sym (if-false (is_taken (claim_verdict rate file)) _ _ (ap is_taken e ∙ f) ∙ ap (λ v. Err v) e);
           told = ap (λ (l : List ℕ). l ++ buffer) (sym (take-nil (length buffer))) ∙ ap (λ t. shown t buffer) (sym none);
         }
 
     -- any other is put
     pub claims-done : claim_verdict rate file ≡ Done → {end : ℕ} {after : List ℕ} → Put buffer 0 (claim_text nexuses places rate file) end after
-        → Claims nexuses places rate file buffer (record { verdict = Done; length = end }) after
+        → Claims nexuses places rate file buffer (Ok end) after
     claims-done e {end} p =
         let all = all-printed e in
         let l : end ≡ length (claim_text nexuses places rate file) = omega (arith, p.tells) in
         record {
-          claimed = λ i. record { verdict = sym e i; length = (l ∙ ap length (sym all)) i };
+          claimed = ap (λ n. Ok n) (l ∙ ap length (sym all)) ∙ sym (if-true (is_taken (claim_verdict rate file)) _ _ (ap is_taken e));
           told = p.holds ∙ sets-shown (claim_text nexuses places rate file) buffer ∙ ap (λ t. shown t buffer) (sym all);
         }
 

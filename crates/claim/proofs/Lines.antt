@@ -3,31 +3,17 @@
 use Prim.Native.Nat.{ℕ, zero, suc, ◌+◌, ◌*◌, ◌≤◌, ◌<◌}
 use mathlib.Core.Path.{◌≡◌, refl, sym, ap, subst, ◌∙◌}
 use mathlib.Core.List.{List, [], ◌∷◌, ◌++◌, append_assoc, append-nil}
-use native.Mathlib.Nat.{not-suc-le-zero, le_of_suc-le-suc, zero-add, min-le_left}
+use native.Mathlib.Nat.{not-suc-le-zero, le_of_suc-le-suc, zero-add}
 use native.Mathlib.Numerals.{add-one}
 use native.Mathlib.Omega.{arith}
-use lib.ListN.{length, get_or, take, replicate, length-take}
+use lib.ListN.{length, get_or, take}
 use lib.Seq.{length-sets, take_all}
-use Rattle.wire.proofs.Stores.{take-padded}
 use Rattle.text.specs.Puts.{Put}
-use Rattle.text.proofs.Puts.{put-none, put_then, put_whole}
-use Rattle.claim.specs.declared.Line.{Line}
+use Rattle.text.proofs.Puts.{put-none, put_then}
 use Rattle.claim.specs.Lines.{row_line, row_lines}
-use Rattle.claim.specs.Making.{line_of, line_most}
+use Rattle.claim.specs.Making.{line_most}
 use Rattle.claim.specs.Rows.{no_writes}
 use Rattle.claim.specs.declared.Row.{Row}
-
--- a line put from the start of a buffer of zeros
-pub line_made : (text : List ℕ) {bytes : List ℕ} {end : ℕ} → Put (replicate line_most 0) 0 text end bytes → record { bytes = bytes; length = end } ≡ line_of text
-unfolding line_of
-line_made text p = let w = put_whole line_most text p in λ i. record { bytes = w.0 i; length = w.1 i }
-
--- and taken from it again
-pub line_taken : (text : List ℕ) {line : Line} → line ≡ line_of text → line.length ≤ line_most → take line.length line.bytes ≡ text
-unfolding line_of
-line_taken text {line} e h =
-    let l : line.length ≡ length text = ap (λ (x : Line). x.length) e in
-    ap (λ (x : Line). take x.length x.bytes) e ∙ take-padded line_most text (omega (arith, l, h))
 
 -- the lines of the first rows, and of one more
 pub lines_more : (j : ℕ) (rows : List Row) (k : ℕ) → k < length rows → row_lines j (take (suc k) rows) ≡ row_lines j (take k rows) ++ row_line (j + k) (get_or rows k no_writes)
@@ -56,16 +42,15 @@ lining-starts = record { few = omega arith; kept = refl; puts = put-none }
 
 module _ {out₀ : List ℕ} {rows : List Row} {k at : ℕ} {out : List ℕ} (l : Lining out₀ rows k at out) where
   -- one more
-  pub lining-more : k < length rows → {line : Line} → line ≡ line_of (row_line k (get_or rows k no_writes)) → line.length ≤ line_most
-      → {to : ℕ} {next : List ℕ} → Put out at (take line.length line.bytes) to next → Lining out₀ rows (k + 1) to next
+  pub lining-more : k < length rows → {line : List ℕ} → line ≡ row_line k (get_or rows k no_writes) → length line ≤ line_most
+      → {to : ℕ} {next : List ℕ} → Put out at line to next → Lining out₀ rows (k + 1) to next
   lining-more h {line} e m {to} {next} p =
       let text = row_line k (get_or rows k no_writes) in
-      let here = line_taken text e m in
-      let more : Put out at text to next = subst (λ t. Put out at t to next) here p in
+      let more : Put out at text to next = subst (λ t. Put out at t to next) e p in
       let same : row_lines 0 (take k rows) ++ text ≡ row_lines 0 (take (k + 1) rows) =
       ap (λ j. row_lines 0 (take k rows) ++ row_line j (get_or rows k no_writes)) (sym (zero-add k)) ∙ sym (lines_more 0 rows k h) ∙ ap (λ j. row_lines 0 (take j rows)) (sym (add-one k)) in
       record {
-        few = let n = ap length here in let t = length-take line.length line.bytes in omega (arith, more.tells, l.few, n, t, min-le_left line.length (length line.bytes), m);
+        few = omega (arith, p.tells, l.few, m);
         kept = ap length more.holds ∙ length-sets out at text ∙ l.kept;
         puts = subst (λ t. Put out₀ 0 t to next) same (put_then l.puts more);
       }

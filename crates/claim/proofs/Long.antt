@@ -16,6 +16,7 @@ use Rattle.recording.proofs.Entries.{length-calls}
 use Rattle.claim.specs.declared.Row.{Row}
 use Rattle.claim.specs.Rows.{totals, writes_in}
 use Rattle.claim.specs.Lines.{spaced, columns, row_line, row_lines, total_line, amount_of, claim_lines}
+use Rattle.claim.specs.Making.{line_most}
 use Rattle.claim.specs.Files.{rate_most, file_writes, file_rows, claim_text}
 use Rattle.claim.proofs.Counting.{length-rows}
 use Rattle.claim.proofs.Sums.{totals-cons, rows-sum}
@@ -76,6 +77,51 @@ total-few total amount w h =
       columns-few total w,
       spaced-few 10 amount (omega arith) h,
     )
+
+-- ---- of any rows
+
+-- a row whose counts have 64 bits
+module _ (row : Row) (encrypted : row.encrypted < 2 ^ 64) (external : row.external < 2 ^ 64) (clear : row.clear < 2 ^ 64) (refused : row.refused < 2 ^ 64) where
+  columns-most : length (columns row) ≤ 84
+  unfolding joined
+  columns-most =
+      let e = spaced row.encrypted in
+      let x = spaced row.external in
+      let c = spaced row.clear in
+      let r = spaced row.refused in
+      omega (
+        arith,
+        length-append e (x ++ (c ++ (r ++ []))),
+        length-append x (c ++ (r ++ [])),
+        length-append c (r ++ []),
+        length-append r [],
+        spaced-few 20 row.encrypted (omega arith) (omega (arith, encrypted)),
+        spaced-few 20 row.external (omega arith) (omega (arith, external)),
+        spaced-few 20 row.clear (omega arith) (omega (arith, clear)),
+        spaced-few 20 row.refused (omega arith) (omega (arith, refused)),
+      )
+
+  pub row_line-most : (k : ℕ) → k < 2 ^ 64 → length (row_line k row) ≤ line_most
+  unfolding bytes_of row_line
+  row_line-most k h =
+      omega (arith, length-append (decimal k ++ columns row) (bytes_of "\n"), length-append (decimal k) (columns row), decimal-few 20 k (omega arith) (omega (arith, h)), columns-most)
+
+  pub total_line-most : (amount : ℕ) → amount < 2 ^ 64 → length (total_line row amount) ≤ line_most
+  unfolding bytes_of total_line
+  total_line-most amount h =
+      let a = bytes_of "total" in
+      let b = a ++ columns row in
+      let c = b ++ bytes_of " amount" in
+      let d = c ++ spaced amount in
+      omega (
+        arith,
+        length-append a (columns row),
+        length-append b (bytes_of " amount"),
+        length-append c (spaced amount),
+        length-append d (bytes_of "\n"),
+        columns-most,
+        spaced-few 20 amount (omega arith) (omega (arith, h)),
+      )
 
 -- The text of a file whose events have fewer than 65,536 bytes has at most 23 bytes a row and 44 for the totals, where there are fewer than
 -- 100 rows.

@@ -1,5 +1,5 @@
 -- Document 02, request 11: the claim of a recorded session, where there are that many nexuses and places.
-use Rattle.std.specs.Prelude.{ℕ, ◌≡◌, Bool, List, [], eqb, leb, length}
+use Rattle.std.specs.Prelude.{ℕ, ◌≡◌, Bool, List, [], eqb, leb, length, Result, Ok, Err}
 use Rattle.arrays.specs.Base.{when◌then◌else◌}
 use Rattle.arrays.specs.Arrays.{count}
 use Rattle.wire.specs.Buffers.{shown}
@@ -12,7 +12,6 @@ use Rattle.recording.specs.declared.Entry.{Entry}
 use Rattle.recording.specs.declared.Verdict.{Verdict}
 use Rattle.recording.specs.declared.Verdict.TheVariants.{Done, RecordingWrong, RateAbove}
 use Rattle.claim.specs.declared.Row.{Row}
-use Rattle.claim.specs.declared.Claimed.{Claimed}
 use Rattle.claim.specs.Writes.{Wrote, writes_from}
 use Rattle.claim.specs.Rows.{rows_of}
 use Rattle.claim.specs.Lines.{claim_lines}
@@ -47,8 +46,12 @@ module _ (nexuses places : ℕ) where
   unfoldable pub claim_printed : (rate : ℕ) (file : List ℕ) → List ℕ
   claim_printed rate file = when is_taken (claim_verdict rate file) then claim_text rate file else []
 
-  -- what a claim gives: the verdict and the text's length, and each byte of the lent buffer, which gets the text's first bytes, as many as
-  -- it holds
-  pub record Claims (rate : ℕ) (file buffer : List ℕ) (r : Claimed) (after : List ℕ) : Type 0 where
-    pub claimed : r ≡ record { verdict = claim_verdict rate file; length = length (claim_printed rate file) }
+  -- the text's length, or else the verdict that refuses the claim
+  abbrev pub claim_length : (rate : ℕ) (file : List ℕ) → Result ℕ Verdict
+  claim_length rate file = when is_taken (claim_verdict rate file) then Ok (length (claim_printed rate file)) else Err (claim_verdict rate file)
+
+  -- what a claim gives: the text's length or a refusal, and each byte of the lent buffer, which gets the text's first bytes, as many as it
+  -- holds
+  pub record Claims (rate : ℕ) (file buffer : List ℕ) (r : Result ℕ Verdict) (after : List ℕ) : Type 0 where
+    pub claimed : r ≡ claim_length rate file
     pub told : after ≡ shown (claim_printed rate file) buffer

@@ -1,7 +1,6 @@
 -- How the code makes a claim: no rule, but what its promises say.
-use Rattle.std.specs.Prelude.{ℕ, List, [], ◌∷◌, length, get_or, set}
+use Rattle.std.specs.Prelude.{ℕ, List, [], ◌∷◌, get_or, set}
 use Rattle.arrays.specs.Base.{when◌then◌else◌}
-use Rattle.wire.specs.Buffers.{padded}
 use Rattle.answer.specs.Answers.{is_done}
 use Rattle.answer.specs.declared.Answer.{Answer}
 use Rattle.drive.specs.Outcomes.{decided}
@@ -10,7 +9,6 @@ use Rattle.drive.specs.declared.Decision.TheVariants.{Refused}
 use Rattle.calls.specs.declared.Asked.{Asked}
 use Rattle.calls.specs.declared.Asked.TheVariants.{PowerOn, In, Out, Write, Read, UnitReset, Happen}
 use Rattle.claim.specs.declared.Row.{Row}
-use Rattle.claim.specs.declared.Line.{Line}
 use Rattle.claim.specs.Writes.{Wrote}
 use Rattle.claim.specs.Rows.{row_of_nexus, no_writes, plus, one}
 
@@ -37,9 +35,6 @@ unfoldable pub noted_each : (nexuses : ℕ) → List Wrote → List Row → List
 noted_each nexuses [] rows = rows
 noted_each nexuses (w ∷ more) rows = noted_each nexuses more (noted nexuses w rows)
 
--- a line by itself: its text, and zeros after it
+-- the most bytes of a line: five numbers of 20 digits and what stands between them
 abbrev pub line_most : ℕ
 line_most = 128
-
-unfoldable pub line_of : List ℕ → Line
-line_of text = record { bytes = padded line_most text; length = length text }

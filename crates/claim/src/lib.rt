@@ -1,8 +1,6 @@
 // Document 02, request 11: what a recorded session claims.
 #![tactic(auto)]
 
-use recording::Verdict;
-
 // How many writes went down encrypted, external and clear, and how many were refused.
 #[derive(Clone, Copy)]
 pub struct Row {
@@ -13,6 +11,7 @@ pub struct Row {
 }
 
 impl Row {
+    // A constant, not `Default`: an array of rows is made of it.
     pub const NONE: Row = Row {
         encrypted: 0,
         external: 0,
@@ -23,20 +22,3 @@ impl Row {
 
 // The highest rate, in pence.
 pub const RATE_MOST: u64 = 1000000;
-
-// The most bytes of a line: five numbers of 20 digits and what stands between them.
-pub const LINE_MOST: usize = 128;
-
-// A line of the claim, its first bytes; zeros after them.
-#[derive(Clone, Copy)]
-pub struct Line {
-    pub bytes: [u8; LINE_MOST],
-    pub length: usize,
-}
-
-// What a claim is answered: its verdict, and the length of its text.
-#[derive(Clone, Copy)]
-pub struct Claimed {
-    pub verdict: Verdict,
-    pub length: usize,
-}

@@ -1,8 +1,9 @@
 // The claim of a recorded session on the drive of this model.
 #![tactic(auto)]
 
-ghost use Rattle.std.specs.Prelude.{◌≡◌, [], ◌∷◌, ◌+◌, ◌*◌, ◌≤◌, ◌<◌, ◌^◌, length, take};
+ghost use Rattle.std.specs.Prelude.{◌≡◌, [], ◌∷◌, ◌+◌, ◌*◌, ◌≤◌, ◌<◌, ◌^◌, length};
 ghost use Rattle.text.specs.Puts.{Put};
+ghost use Rattle.text_code.specs.Telling.{text_of};
 ghost use Rattle.sizes_16.specs.Sizes.{nexus_count, place_count};
 ghost use Rattle.recording.specs.Entries.{calls};
 ghost use Rattle.session_16.specs.Sessions.{start};
@@ -13,10 +14,11 @@ ghost use Rattle.claim.specs.Lines.{row_lines, claim_lines};
 ghost use Rattle.claim.specs.Files.{Claims};
 
 use calls::Asked;
-use claim::{Claimed, Line, RATE_MOST, Row};
+use claim::{RATE_MOST, Row};
 use drive::Decision;
 use recording::{ENTRY_SIZE, Verdict};
 use sizes_16::NEXUSES;
+use text_code::Lines;
 
 // A row for each nexus, and one for those above.
 pub const ROWS: usize = NEXUSES + 1;
@@ -57,13 +59,8 @@ fn note(rows: [Row; ROWS], asked: Asked, decision: Decision) -> [Row; ROWS]
     ensures { result ≡ noted_each nexus_count (wrote_as asked decision) rows }
 {
     match asked {
-        Asked::PowerOn => rows,
-        Asked::In(_) => rows,
-        Asked::Out(_) => rows,
         Asked::Write(n, _) => count_at(rows, n, decision),
-        Asked::Read(_, _) => rows,
-        Asked::UnitReset => rows,
-        Asked::Happen(_) => rows,
+        _ => rows,
     }
 }
 
@@ -73,9 +70,8 @@ pub fn tally(events: &[u8], pages: &[u8]) -> [Row; ROWS]
 {
     let mut after = words_16::power_on();
     let mut rows = [Row::NONE; ROWS];
-    let mut rest = events;
-    while ENTRY_SIZE <= rest.len() {
-        let e = recording_code::entry_of(rest);
+    for event in events.chunks_exact(ENTRY_SIZE) {
+        let e = recording_code::entry_of(event);
         let asked = recording_code::asked_of(e);
         let sight = calls_16::look(after.device, calls_code::sender_number(asked));
         let quiet = calls_code::quietly(true, NEXUSES, sight.nexus, sight.set, asked);
@@ -86,12 +82,11 @@ pub fn tally(events: &[u8], pages: &[u8]) -> [Row; ROWS]
             let outcome = calls_16::perform(after, true, asked, recording_code::page_of(e, pages));
             after = outcome.after;
         }
-        rest = &rest[ENTRY_SIZE..];
     }
     rows
 }
 
-// Two rows, column by column.
+// Two rows, column by column. Not an `Add`: a row is of another crate, and its counts must not overflow.
 fn add(a: Row, b: Row) -> Row
     requires { writes_in (plus a b) < 2 ^ 64 }
     ensures { result ≡ plus a b }
@@ -110,20 +105,20 @@ fn sum(rows: [Row; ROWS]) -> Row
     ensures { result ≡ totals rows }
 {
     let mut total = Row::NONE;
-    for k in 0..ROWS {
-        total = add(total, rows[k]);
+    for row in &rows {
+        total = add(total, *row);
     }
     total
 }
 
 // Puts a line, and tells the index after it.
-fn put_line(out: &mut [u8], at: usize, line: Line) -> usize
+fn put_line(out: &mut [u8], at: usize, line: Lines) -> usize
     requires { (at ≤ line_most * 64) × (line.length ≤ line_most) }
-    ensures { Put out.old at (take line.length line.bytes) result out.new }
+    ensures { Put out.old at (text_of line) result out.new }
 {
-    let bytes = line.bytes;
-    wire_code::put(out, at, wire_code::part(&bytes, 0, line.length));
-    at + line.length
+    let text = line.text();
+    wire_code::put(out, at, text);
+    at + text.len()
 }
 
 // Puts the lines of all rows.
@@ -131,9 +126,8 @@ fn put_rows(out: &mut [u8], rows: [Row; ROWS]) -> usize
     ensures { Put out.old 0 (row_lines 0 rows) result out.new × (result ≤ line_most * 17) }
 {
     let mut at = 0;
-    for k in 0..ROWS {
-        let line = claim_code::row_line(k as u64, rows[k]);
-        at = put_line(out, at, line);
+    for (k, row) in rows.iter().enumerate() {
+        at = put_line(out, at, claim_code::row_line(k as u64, *row));
     }
     at
 }
@@ -149,28 +143,19 @@ fn put_claim(out: &mut [u8], rows: [Row; ROWS], rate: u64) -> usize
     put_line(out, at, claim_code::total_line(total, amount))
 }
 
-// The claim of a recorded file, at a rate in pence.
-pub fn claim(file: &[u8], rate: u64, out: &mut [u8]) -> Claimed
+// The claim of a recorded file, at a rate in pence: the length of its text.
+pub fn claim(file: &[u8], rate: u64, out: &mut [u8]) -> Result<usize, Verdict>
     ensures { Claims nexus_count place_count rate file.now out.old result out.new }
 {
     if !recording_code::is_sound_file(file) {
-        return Claimed {
-            verdict: Verdict::RecordingWrong,
-            length: 0,
-        };
+        return Err(Verdict::RecordingWrong);
     }
     if RATE_MOST < rate {
-        return Claimed {
-            verdict: Verdict::RateAbove,
-            length: 0,
-        };
+        return Err(Verdict::RateAbove);
     }
     let rows = tally(
         recording_code::events_of(file),
         recording_code::pages_of(file),
     );
-    Claimed {
-        verdict: Verdict::Done,
-        length: put_claim(out, rows, rate),
-    }
+    Ok(put_claim(out, rows, rate))
 }

@@ -31,7 +31,7 @@ pub fn request_of(bytes: [u8; 8]) -> Request
 pub fn has_data(kind: u8) -> bool
     ensures { result ≡ has_data kind }
 {
-    (kind == OUT) | (kind == BATCH) | (kind == READ_STATUS) | (kind == TAKE_RECORD)
+    matches!(kind, OUT | BATCH | READ_STATUS | TAKE_RECORD)
 }
 
 // The buffer that is lent to a call: only IN has one.
@@ -46,12 +46,13 @@ fn lent_to(request: Request) -> u16
 }
 
 // A call of the drive's, where its buffer isn't too large and a write's argument is a flag.
+#[tactic(auto, unfolding(command::specs::Requests::call_order))]
 fn call_order(request: Request) -> Order
     ensures { result ≡ call_order request }
 {
     let lent = lent_to(request);
-    let flag_known = !(request.kind == WRITE) | (request.argument <= 1);
-    if (lent <= LENT_MOST) & flag_known {
+    let flag_known = request.kind != WRITE || request.argument <= 1;
+    if lent <= LENT_MOST && flag_known {
         let asked = calls_code::asked_of(
             request.kind,
             request.nexus,
@@ -68,42 +69,37 @@ fn batch_order(request: Request) -> Order
     ensures { result ≡ batch_order request }
 {
     if request.argument <= LENT_MOST {
-        return Order::Batch(request.argument);
+        Order::Batch(request.argument)
+    } else {
+        Order::Unknown
     }
-    Order::Unknown
 }
 
 // A kind that is no call of the drive's.
+#[tactic(auto, unfolding(command::specs::Requests::tool_order))]
 fn tool_order(request: Request) -> Order
     ensures { result ≡ tool_order request }
 {
-    let kind = request.kind;
-    if kind == BATCH {
-        return batch_order(request);
+    match request.kind {
+        BATCH => batch_order(request),
+        SERVES => Order::Serves(request.argument),
+        READ_STATUS => Order::ReadStatus,
+        TAKE_RECORD => Order::TakeRecord,
+        GIVE_RECORD => Order::GiveRecord,
+        _ => Order::Unknown,
     }
-    if kind == SERVES {
-        return Order::Serves(request.argument);
-    }
-    if kind == READ_STATUS {
-        return Order::ReadStatus;
-    }
-    if kind == TAKE_RECORD {
-        return Order::TakeRecord;
-    }
-    if kind == GIVE_RECORD {
-        return Order::GiveRecord;
-    }
-    Order::Unknown
 }
 
 // What a command orders.
+#[tactic(auto, unfolding(command::specs::Requests::order_of))]
 pub fn order_of(request: Request) -> Order
     ensures { result ≡ order_of request }
 {
     if request.kind <= READ {
-        return call_order(request);
+        call_order(request)
+    } else {
+        tool_order(request)
     }
-    tool_order(request)
 }
 
 // A batch's data hold the events that they say.

@@ -30,52 +30,23 @@ fn command(nexus: u8, code: u16) -> Command {
     }
 }
 
-fn writes(start: Record, n: u8, turns: u32) -> Record {
+// The record after so many turns of a step.
+fn repeat<F: Fn(Record) -> Record>(start: Record, turns: u32, step: F) -> Record
+    requires { F.IsAlwaysCallable step }
+{
     let mut d = start;
-    let mut i: u32 = 0;
-    while i < turns {
-        let w = drive_16::write(d, n, true);
-        let next = w.after;
-        d = next;
-        i += 1;
+    for _ in 0..turns {
+        d = step(d);
     }
     d
 }
 
-fn reads(start: Record, n: u8, turns: u32) -> Record {
-    let mut d = start;
-    let mut i: u32 = 0;
-    while i < turns {
-        let w = drive_16::read(d, n, Block { kind: 1, key: 0 });
-        let next = w.after;
-        d = next;
-        i += 1;
-    }
-    d
-}
-
-fn ins(start: Record, n: u8, turns: u32) -> Record {
-    let mut d = start;
-    let mut i: u32 = 0;
-    while i < turns {
-        let mut buffer = [0u8; 64];
-        let w = drive_16::security_in(d, command(n, 0x20), &mut buffer);
-        let next = w.after;
-        d = next;
-        i += 1;
-    }
-    d
-}
-
+// A loop of its own: as a step of repeat this call takes one more copy of the record. So do those of locals and events.
 fn outs(start: Record, n: u8, turns: u32) -> Record {
     let mut d = start;
     let page = page_k();
-    let mut i: u32 = 0;
-    while i < turns {
-        let w = drive_16::security_out(d, command(n, 0x10), &page);
-        let next = w.after;
-        d = next;
-        i += 1;
+    for _ in 0..turns {
+        d = drive_16::security_out(d, command(n, 0x10), &page).after;
     }
     d
 }
@@ -92,9 +63,7 @@ fn taken(start: Record, first: u8, end: u8, lock: bool) -> Record {
     let mut d = start;
     let page = local_page(lock);
     for n in first..end {
-        let w = drive_16::security_out(d, command(n, 0x10), &page);
-        let next = w.after;
-        d = next;
+        d = drive_16::security_out(d, command(n, 0x10), &page).after;
     }
     d
 }
@@ -103,13 +72,10 @@ fn taken(start: Record, first: u8, end: u8, lock: bool) -> Record {
 fn locals(start: Record, turns: u32) -> Record {
     let page = local_page(false);
     let mut d = start;
-    let mut i: u32 = 0;
-    while i < turns {
-        let w = drive_16::security_out(d, command(15, 0x10), &page);
-        let next = w.after;
+    for _ in 0..turns {
+        let next = drive_16::security_out(d, command(15, 0x10), &page).after;
         d = start;
         d.device.counter = next.device.counter;
-        i += 1;
     }
     d
 }
@@ -118,50 +84,40 @@ fn locals(start: Record, turns: u32) -> Record {
 // it; all but the last, with it; all, with it.
 fn places_taken(d: Record, kind: u8) -> Record {
     let last = PLACES as u8 + 1;
-    if kind == 6 {
-        return taken(d, 3, last + 1, false);
+    match kind {
+        6 => taken(d, 3, last + 1, false),
+        7 => taken(taken(d, 3, last, true), last, last + 1, false),
+        8 => taken(d, 3, last, true),
+        _ => taken(d, 3, last + 1, true),
     }
-    if kind == 7 {
-        return taken(taken(d, 3, last, true), last, last + 1, false);
-    }
-    if kind == 8 {
-        return taken(d, 3, last, true);
-    }
-    taken(d, 3, last + 1, true)
 }
 
 fn events(start: Record, turns: u32, event: Event) -> Record {
     let mut d = start;
-    let mut i: u32 = 0;
-    while i < turns {
-        let w = drive_16::happen(d, event);
-        let next = w.after;
-        d = next;
-        i += 1;
+    for _ in 0..turns {
+        d = drive_16::happen(d, event).after;
     }
     d
 }
 
 fn run(d: Record, kind: u8, n: u8, turns: u32) -> Record {
-    if kind == 0 {
-        return writes(d, n, turns);
+    match kind {
+        0 => repeat(d, turns, |r| drive_16::write(r, n, true).after),
+        1 => repeat(
+            d,
+            turns,
+            |r| drive_16::security_in(r, command(n, 0x20), &mut [0u8; 64]).after,
+        ),
+        2 => outs(d, n, turns),
+        3 => events(d, turns, Event::Demount),
+        4 => events(d, turns, Event::Microcode),
+        5 => repeat(
+            d,
+            turns,
+            |r| drive_16::read(r, n, Block { kind: 1, key: 0 }).after,
+        ),
+        _ => locals(places_taken(d, kind), turns),
     }
-    if kind == 1 {
-        return ins(d, n, turns);
-    }
-    if kind == 2 {
-        return outs(d, n, turns);
-    }
-    if kind == 3 {
-        return events(d, turns, Event::Demount);
-    }
-    if kind == 4 {
-        return events(d, turns, Event::Microcode);
-    }
-    if kind == 5 {
-        return reads(d, n, turns);
-    }
-    locals(places_taken(d, kind), turns)
 }
 
 fn turns_of(b: u8) -> u32 {
@@ -172,14 +128,8 @@ fn turns_of(b: u8) -> u32 {
 fn main(rt: HostRuntime) {
     let mut input = [0u8; 3];
     let _ = rt.stdin().read(&mut input);
-    let page = page_k();
-    let first = drive_16::power_on();
-    let on = first.after;
-    let sent = drive_16::security_out(on, command(3, 0x10), &page);
-    let start = sent.after;
-    let kind = input[0];
-    let turns = turns_of(input[1]);
-    let d = run(start, kind, input[2], turns);
-    let out = [(d.device.counter % 256) as u8];
-    let _ = rt.stdout().write_all(&out);
+    let on = drive_16::power_on().after;
+    let start = drive_16::security_out(on, command(3, 0x10), &page_k()).after;
+    let d = run(start, input[0], input[2], turns_of(input[1]));
+    let _ = rt.stdout().write_all(&[(d.device.counter % 256) as u8]);
 }

@@ -1,5 +1,6 @@
 -- The place whose set a nexus uses.
 -- Assumes nothing.
+use Rattle.std.specs.Prelude.{Some, None}
 use Prim.Native.Nat.{ℕ, ◌<◌}
 use mathlib.Core.Path.{◌≡◌, sym, ap, ◌∙◌}
 use mathlib.Core.Bool.{true, false, not}
@@ -17,7 +18,6 @@ use Rattle.device.specs.Selecting.{owns, owned_place, or_else, place_of, selecte
 use Rattle.device.specs.WellFormed.{well_formed}
 use Rattle.device.specs.declared.Set.{Set}
 use Rattle.device.specs.declared.Nexus.{Nexus}
-use Rattle.device.specs.declared.Found.TheVariants.{At, Nowhere}
 use Rattle.device.proofs.WellFormed.{local-place, used-within, scope-at, nexus-at}
 
 -- ---- in any record
@@ -27,7 +27,7 @@ pub place-within : (nexus : Nexus) (n : ℕ) (sets : List Set) → 0 < length se
 unfolding owned_place
 place-within nexus n sets h =
     if-elim (λ k. k < length sets) (eqb nexus.scope local_scope)
-    (λ e. find-by At Nowhere (λ place. owns n) no_set (λ f. or_else f 0 < length sets) sets (λ k l t. l) h)
+    (λ e. find-by Some None (λ place. owns n) no_set (λ f. or_else f 0 < length sets) sets (λ k l t. l) h)
     (λ e. h)
 
 pub selected-within : (s : State) (n : ℕ) → 0 < length s.sets → selected s n < length s.sets
@@ -74,7 +74,7 @@ module _ (s : State) (w : well_formed s ≡ true) where
   unfolding owned_place
   selected-local n e =
       rw (selected-own s n e)
-      (find-counted (λ k. owns n) no_set At Nowhere (λ f. Own s n (or_else f 0)) s.sets (λ k l t. own n k t) (omega (arith, (nexus-at s w n).local e)))
+      (find-counted (λ k. owns n) no_set Some None (λ f. Own s n (or_else f 0)) s.sets (λ k l t. own n k t) (omega (arith, (nexus-at s w n).local e)))
 
   -- and it is the only one
   pub selected-only : (n place : ℕ) → (nexus_at s n).scope ≡ local_scope → owns n (set_at s place) ≡ true → selected s n ≡ place

@@ -1,25 +1,23 @@
 -- Document 01: "A LOCAL nexus uses its own place; PUBLIC and ALL nexuses use place 0."
-use Rattle.std.specs.Prelude.{ℕ, Bool, ◌&&◌, List, eqb}
+use Rattle.std.specs.Prelude.{ℕ, Bool, ◌&&◌, List, eqb, Option, Some, None}
 use Rattle.arrays.specs.Base.{when◌then◌else◌}
 use Rattle.arrays.specs.Arrays.{find}
 use Rattle.parameters.specs.Codes.{local_scope}
 use Rattle.device.specs.Record.{State, set_at, nexus_at}
 use Rattle.device.specs.declared.Set.{Set}
 use Rattle.device.specs.declared.Nexus.{Nexus}
-use Rattle.device.specs.declared.Found.{Found}
-use Rattle.device.specs.declared.Found.TheVariants.{At, Nowhere}
 
 -- the set is LOCAL and the nexus owns it (LOCAL sets stand in places 1 to 4 alone)
 abbrev pub owns : ℕ → Set → Bool
 owns n set = eqb set.scope local_scope && eqb set.owner n
 
 -- the lowest such place
-unfoldable pub owned_place : List Set → ℕ → Found
-owned_place sets n = find At Nowhere (λ place. owns n) sets
+unfoldable pub owned_place : List Set → ℕ → Option ℕ
+owned_place sets n = find Some None (λ place. owns n) sets
 
-abbrev pub or_else : Found → ℕ → ℕ
-or_else (At place) other = place
-or_else Nowhere other = other
+abbrev pub or_else : Option ℕ → ℕ → ℕ
+or_else (Some place) other = place
+or_else None other = other
 
 -- the place whose set nexus n uses, given the nexus and the sets
 abbrev pub place_of : Nexus → ℕ → List Set → ℕ

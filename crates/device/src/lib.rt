@@ -71,10 +71,3 @@ impl Nexus {
         },
     };
 }
-
-// A place, or none.
-#[derive(Clone, Copy)]
-pub enum Found {
-    At(usize),
-    Nowhere,
-}

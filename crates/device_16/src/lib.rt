@@ -7,7 +7,7 @@ ghost use Rattle.device_16.specs.Model.{state, device, numbers_of};
 ghost use Rattle.device.specs.Record.{new_nexus, power_on, nexus_at};
 ghost use Rattle.device.specs.Selecting.{owned_place, place_of, selected, selected_set};
 
-use device::{Found, Nexus, Set};
+use device::{Nexus, Set};
 use parameters::LOCAL;
 use sizes_16::{NEXUSES, PLACES};
 
@@ -37,16 +37,10 @@ pub fn power_on() -> Device
 }
 
 // The lowest place whose LOCAL set the nexus owns.
-pub fn owned_place(sets: [Set; PLACES], n: usize) -> Found
+pub fn owned_place(sets: [Set; PLACES], n: usize) -> Option<usize>
     ensures { result ≡ owned_place sets n }
 {
-    for place in 0..PLACES {
-        let set = sets[place];
-        if device_code::is_owned(set, n) {
-            return Found::At(place);
-        }
-    }
-    Found::Nowhere
+    sets.iter().position(|set| device_code::is_owned(*set, n))
 }
 
 // A nexus; past the last one, as power-on gives it.
@@ -59,8 +53,7 @@ pub fn nexus_of(nexuses: [Nexus; NEXUSES], n: usize) -> Nexus
 pub fn nexus_at(d: Device, n: usize) -> Nexus
     ensures { result ≡ nexus_at (state d) n }
 {
-    let nexuses = d.nexuses;
-    nexus_of(nexuses, n)
+    nexus_of(d.nexuses, n)
 }
 
 // The place whose set a nexus uses: a LOCAL nexus its own, PUBLIC and ALL nexuses place 0.
@@ -70,15 +63,14 @@ pub fn place_of(nexus: Nexus, n: usize, sets: [Set; PLACES]) -> usize
     if nexus.scope != LOCAL {
         return 0;
     }
-    device_code::or_else(owned_place(sets, n), 0)
+    owned_place(sets, n).unwrap_or(0)
 }
 
 // The same of a nexus of the record.
 pub fn selected(d: Device, n: usize) -> usize
     ensures { (result ≡ selected (state d) n) × (result < place_count) }
 {
-    let sets = d.sets;
-    place_of(nexus_at(d, n), n, sets)
+    place_of(nexus_at(d, n), n, d.sets)
 }
 
 // The numbers of the sets: few bytes, which may be indexed without a copy of the sets.
@@ -86,6 +78,7 @@ pub fn numbers(sets: [Set; PLACES]) -> [u32; PLACES]
     ensures { result ≡ numbers_of sets }
 {
     let mut out = [0u32; PLACES];
+    // The library states an array's `map` by its calls, one for each element; this loop's invariant states the numbers themselves.
     for place in 0..PLACES {
         let set = sets[place];
         out[place] = set.number;

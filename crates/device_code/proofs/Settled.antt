@@ -2,8 +2,6 @@
 use Rattle.settled.specs.Settles.{SettlesAnswer, same}
 use Rattle.device_code.proofs.is_owned.Reads as is-owned
 use Rattle.device_code.proofs.is_owned.Kinds as is-owned-kinds
-use Rattle.device_code.proofs.or_else.Reads as or_else
-use Rattle.device_code.proofs.or_else.Kinds as or-else-kinds
 use Rattle.device_code.proofs.used_fits.Reads as used-fits
 use Rattle.device_code.proofs.used_fits.Kinds as used-fits-kinds
 use Rattle.device_code.proofs.empty_is_zero.Reads as empty-is-zero
@@ -11,9 +9,6 @@ use Rattle.device_code.proofs.empty_is_zero.Kinds as empty-is-zero-kinds
 
 pub is-owned-settles : SettlesAnswer 0 is-owned-kinds.ps is-owned-kinds.r is-owned.Post
 is-owned-settles κs a x y s t p q = same p q
-
-pub or-else-settles : SettlesAnswer 0 or-else-kinds.ps or-else-kinds.r or_else.Post
-or-else-settles κs a x y s t p q = same p q
 
 pub used-fits-settles : SettlesAnswer 0 used-fits-kinds.ps used-fits-kinds.r used-fits.Post
 used-fits-settles κs a x y s t p q = same p q

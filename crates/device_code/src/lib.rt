@@ -2,11 +2,10 @@
 #![tactic(auto)]
 
 ghost use Rattle.std.specs.Prelude.{◌≡◌};
-ghost use Rattle.arrays.specs.Arrays.{count};
-ghost use Rattle.device.specs.Selecting.{owns, or_else};
+ghost use Rattle.device.specs.Selecting.{owns};
 ghost use Rattle.device.specs.WellFormed.{set_codes, set_tails, scope_fits, used_fits, set_zero, empty_is_zero};
 
-use device::{Found, Set};
+use device::Set;
 use parameters::{ALGORITHM, ALL, LOCAL, SUPPLEMENTAL_MOST};
 
 // The set is LOCAL and the nexus owns it.
@@ -14,15 +13,6 @@ pub fn is_owned(set: Set, n: usize) -> bool
     ensures { result ≡ owns n set }
 {
     (set.scope == LOCAL) & (set.owner as usize == n)
-}
-
-pub fn or_else(found: Found, other: usize) -> usize
-    ensures { result ≡ or_else found other }
-{
-    match found {
-        Found::At(place) => place,
-        Found::Nowhere => other,
-    }
 }
 
 // A set's codes, owner and lengths are in range, where there are that many nexuses.
@@ -57,10 +47,7 @@ fn scope_fits(set: Set, place: usize) -> bool
 pub fn used_fits(set: Set, place: usize, nexuses: usize) -> bool
     ensures { result ≡ used_fits nexuses place set }
 {
-    if set.scope == 0 {
-        return true;
-    }
-    set_codes(set, nexuses) & set_tails(set) & scope_fits(set, place)
+    (set.scope == 0) || (set_codes(set, nexuses) & set_tails(set) & scope_fits(set, place))
 }
 
 // Zero but for the instance number.
@@ -81,8 +68,5 @@ fn set_zero(set: Set) -> bool
 pub fn empty_is_zero(set: Set) -> bool
     ensures { result ≡ empty_is_zero set }
 {
-    if set.scope != 0 {
-        return true;
-    }
-    set_zero(set)
+    (set.scope != 0) || set_zero(set)
 }

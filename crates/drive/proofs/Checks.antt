@@ -1,7 +1,7 @@
 -- Laws of checks in number order.
 -- Assumes nothing.
 use Prim.Native.Nat.{ℕ}
-use mathlib.Core.Path.{◌≡◌, refl, sym, ap, ap₂, ◌∙◌}
+use mathlib.Core.Path.{◌≡◌, refl, sym, ap, ◌∙◌}
 use mathlib.Core.Bool.{Bool, true, false, not}
 use mathlib.Core.List.{List, [], ◌∷◌, ◌++◌}
 use borrow.Author.Tests.{not-true, not-false}
@@ -14,10 +14,7 @@ use Rattle.answer.specs.declared.Answer.TheVariants.{Done, NotWellFormed, NexusA
 use Rattle.answer.proofs.Numbers.{done-is}
 use Rattle.device.specs.Record.{State, nexus_at}
 use Rattle.device.specs.WellFormed.{well_formed}
-use Rattle.device.specs.declared.Nexus.{Nexus}
-use Rattle.drive.specs.Calls.{Call}
-use Rattle.drive.specs.declared.Command.{Command}
-use Rattle.drive.specs.Checks.{answer_if, first_of, check1, heard, heard_of, checks, known_answer, commanded, commanded_of}
+use Rattle.drive.specs.Checks.{answer_if, first_of, check1, heard_of}
 
 -- where the first checks find a fault, theirs is the answer
 pub first_stops : (a b : List Answer) → is_done (first_of a) ≡ false → first_of (a ++ b) ≡ first_of a
@@ -72,38 +69,9 @@ module _ (P : Answer → Type 0) (one : P NotWellFormed) (two : P NexusAbove) (t
   pub first-told : (s : State) (n : ℕ) → P (first_of (check1 s ∷ heard_of s n))
   first-told s n = first-of (not (well_formed s)) (leb (length s.nexuses) n) (nexus_at s n).marks.another (nexus_at s n).marks.vendor
 
--- checks 2 to 4, of a nexus that was found in a record of so many
-pub heard-found : (s : State) (n nexuses : ℕ) (nexus : Nexus) (a : Answer) → length s.nexuses ≡ nexuses → nexus ≡ nexus_at s n
-    → a ≡ first_of (heard nexuses n nexus.marks) → a ≡ first_of (heard_of s n)
-heard-found s n nexuses nexus a l e h = h ∙ ap₂ (λ (k : ℕ) (x : Nexus). first_of (heard k n x.marks)) (sym l) e
-
--- checks 2 to 6 of it
-pub commanded-found : (s : State) (command : Command) (nexuses : ℕ) (nexus : Nexus) (a : Answer) (supported : Bool) → length s.nexuses ≡ nexuses → nexus ≡ nexus_at s command.nexus
-    → a ≡ first_of (commanded nexuses command nexus.marks supported) → a ≡ first_of (commanded_of s command supported)
-commanded-found s command nexuses nexus a supported l e h = h ∙ ap₂ (λ (k : ℕ) (x : Nexus). first_of (commanded k command x.marks supported)) (sym l) e
-
--- a call's checks after the first: where the front of them finds a fault, theirs is the answer
-pub known-stops : (s : State) (call : Call) (front rest : List Answer) → checks s call ≡ front ++ rest → (a : Answer) → a ≡ first_of front
-    → is_done a ≡ false → a ≡ known_answer s call
-unfolding known_answer
-known-stops s call front rest e a h f = h ∙ sym (ap first_of e ∙ first_stops front rest (ap is_done (sym h) ∙ f))
-
--- and where it finds none, that of the others
-pub known-passes : (s : State) (call : Call) (front rest : List Answer) → checks s call ≡ front ++ rest → (first a : Answer) → first ≡ first_of front
-    → is_done first ≡ true → a ≡ first_of rest → a ≡ known_answer s call
-unfolding known_answer
-known-passes s call front rest e first a h t r = r ∙ sym (ap first_of e ∙ first_passes front rest (ap is_done (sym h) ∙ t))
-
 -- what a branch on a call's `is_done` tells
 pub fault-told : {b r : Bool} → r ≡ b → not r ≡ true → b ≡ false
 fault-told {b} {r} e t = sym e ∙ not-true r t
 
 pub done-told : {b r : Bool} → r ≡ b → not r ≡ false → b ≡ true
 done-told {b} {r} e t = sym e ∙ not-false r t
-
--- and of the checks that the call made
-pub told-fault : {a b : Answer} {r : Bool} → a ≡ b → r ≡ is_done a → not r ≡ true → is_done b ≡ false
-told-fault e d t = ap is_done (sym e) ∙ fault-told d t
-
-pub told-done : {a b : Answer} {r : Bool} → a ≡ b → r ≡ is_done a → not r ≡ false → is_done b ≡ true
-told-done e d t = ap is_done (sym e) ∙ done-told d t

@@ -1,5 +1,6 @@
 -- What is known of a call's effect: which answer it had, what the page is that it takes, and that no array changes its size.
 -- Assumes nothing.
+use Rattle.std.specs.Prelude.{ℕ, Option, Some, None, is_ok}
 use Prim.Native.Nat.{ℕ, ◌<◌}
 use mathlib.Core.Path.{◌≡◌, refl, sym, ap, ◌∙◌}
 use mathlib.Core.Bool.{Bool, true, false}
@@ -25,15 +26,11 @@ use Rattle.device.specs.declared.Set.{Set}
 use Rattle.marks.specs.Marks.{changes, flagged}
 use Rattle.marks.specs.Reset.{cleared}
 use Rattle.marks.proofs.Changes.{unchanged}
-use Rattle.marks.specs.declared.Actor.{Actor}
-use Rattle.marks.specs.declared.Actor.TheVariants.{Nobody, Acting}
 use Rattle.places.specs.Actions.{no_place, releases, released_by, taken}
 use Rattle.places.proofs.Lengths.{SameSize, size-stays, size-then, power-places, power-nexuses, acts-size, taken-size}
 use Rattle.drive.specs.declared.Command.{Command}
 use Rattle.drive.specs.declared.Block.{Block}
-use Rattle.drive.specs.declared.Ruling.{Ruling}
-use Rattle.drive.specs.declared.ReadDecision.{ReadDecision}
-use Rattle.drive.specs.Restoring.{plain_kind, encrypted_kind, no_key, under_mode, not_known, restored}
+use Rattle.drive.specs.Restoring.{plain_kind, encrypted_kind, no_key, Ruling, ruled_answer, under_mode, not_known, restored}
 use Rattle.drive.specs.RestoringClaims.{read_number}
 use Rattle.drive.specs.Calls.{Call, power_up, security_in, security_out, write, read, unit_reset, happens, sender_of, is_power_up}
 use Rattle.status.specs.Pages.{is_out_page}
@@ -78,7 +75,7 @@ where-agrees s call = cases (well_formed s) (λ w. known-agrees s call w ∙ sym
 -- ---- a refusal
 
 -- what a refusal does to the record is what its row says
-pub refusal-changes : (rule : Telling) (s : State) (n : ℕ) (change : Change) → carried_out rule s (refusal (Acting n) change) ≡ changes s n change
+pub refusal-changes : (rule : Telling) (s : State) (n : ℕ) (change : Change) → carried_out rule s (refusal (Some n) change) ≡ changes s n change
 unfolding carried_out changed_by
 refusal-changes rule s n Unchanged = sym (unchanged s n)
 refusal-changes rule s n AnotherCleared = refl
@@ -105,12 +102,12 @@ Due s (releasing event) = Unit {0}
 Due s restarts = Unit {0}
 
 -- of a refusal nothing
-refusal-due : (s : State) (sender : Actor) (change : Change) → Due s (refusal sender change)
-refusal-due s Nobody change = tt
-refusal-due s (Acting n) Unchanged = tt
-refusal-due s (Acting n) AnotherCleared = tt
-refusal-due s (Acting n) VendorCleared = tt
-refusal-due s (Acting n) Registered = tt
+refusal-due : (s : State) (sender : Option ℕ) (change : Change) → Due s (refusal sender change)
+refusal-due s None change = tt
+refusal-due s (Some n) Unchanged = tt
+refusal-due s (Some n) AnotherCleared = tt
+refusal-due s (Some n) VendorCleared = tt
+refusal-due s (Some n) Registered = tt
 
 -- a page that is carried out has passed every check: its sender is one of the nexuses, its own check found no fault, nor did check 10
 pub out-passed : (s : State) (command : Command) (page : List ℕ) → is_done (answer s (security_out command page)) ≡ true → let read = page_checked s command.nexus page in
@@ -153,12 +150,12 @@ is_taken (releasing event) = false
 is_taken restarts = false
 
 -- no refusal takes a page
-refusal-takes : (sender : Actor) (change : Change) → is_taken (refusal sender change) ≡ false
-refusal-takes Nobody change = refl
-refusal-takes (Acting n) Unchanged = refl
-refusal-takes (Acting n) AnotherCleared = refl
-refusal-takes (Acting n) VendorCleared = refl
-refusal-takes (Acting n) Registered = refl
+refusal-takes : (sender : Option ℕ) (change : Change) → is_taken (refusal sender change) ≡ false
+refusal-takes None change = refl
+refusal-takes (Some n) Unchanged = refl
+refusal-takes (Some n) AnotherCleared = refl
+refusal-takes (Some n) VendorCleared = refl
+refusal-takes (Some n) Registered = refl
 
 pub taken-answered : (s : State) (call : Call) (n : ℕ) (page : Page) → effect s call ≡ takes n page → answer s call ≡ Done
 unfolding effect_by
@@ -186,12 +183,12 @@ restart-is (releasing event) t = clash t refl
 restart-is restarts t = refl
 
 -- no refusal is
-refusal-restarts : (sender : Actor) (change : Change) → is_restart (refusal sender change) ≡ false
-refusal-restarts Nobody change = refl
-refusal-restarts (Acting n) Unchanged = refl
-refusal-restarts (Acting n) AnotherCleared = refl
-refusal-restarts (Acting n) VendorCleared = refl
-refusal-restarts (Acting n) Registered = refl
+refusal-restarts : (sender : Option ℕ) (change : Change) → is_restart (refusal sender change) ≡ false
+refusal-restarts None change = refl
+refusal-restarts (Some n) Unchanged = refl
+refusal-restarts (Some n) AnotherCleared = refl
+refusal-restarts (Some n) VendorCleared = refl
+refusal-restarts (Some n) Registered = refl
 
 -- any other call starts nothing anew
 other-restarts : (s : State) (call : Call) → is_restart (doing s call) ≡ false → is_restart (effect s call) ≡ false
@@ -216,19 +213,19 @@ restarts-anyway s t call = restarts-power s call ∙ sym (restarts-power t call)
 -- ---- a write and a read: checks 1 to 4, then their own
 
 -- an answer that changes nothing does nothing
-quiet-nothing : (n : ℕ) (a : Answer) → change_of a ≡ Unchanged → when is_done a then nothing else refusal (Acting n) (change_of a) ≡ nothing
-quiet-nothing n a e = if-elim (λ x. x ≡ nothing) (is_done a) (λ t. refl) (λ f. ap (refusal (Acting n)) e)
+quiet-nothing : (n : ℕ) (a : Answer) → change_of a ≡ Unchanged → when is_done a then nothing else refusal (Some n) (change_of a) ≡ nothing
+quiet-nothing n a e = if-elim (λ x. x ≡ nothing) (is_done a) (λ t. refl) (λ f. ap (refusal (Some n)) e)
 
 -- where their own change nothing, checks 1 to 4 alone decide what the call does
 heard-effect : (s : State) (n : ℕ) (own : List Answer) → change_of (first_of own) ≡ Unchanged → let a = first_of ((check1 s ∷ heard_of s n) ++ own) in
-    when is_done a then nothing else refusal (Acting n) (change_of a) ≡ refusal (Acting n) (change_of (first_of (check1 s ∷ heard_of s n)))
+    when is_done a then nothing else refusal (Some n) (change_of a) ≡ refusal (Some n) (change_of (first_of (check1 s ∷ heard_of s n)))
 heard-effect s n own quiet =
     let first = check1 s ∷ heard_of s n in
     cases (is_done (first_of first))
     (λ t.
-    ap (λ a. when is_done a then nothing else refusal (Acting n) (change_of a)) (first_passes first own t) ∙ quiet-nothing n (first_of own) quiet
-    ∙ ap (λ a. refusal (Acting n) (change_of a)) (sym (done-is (first_of first) t)))
-    (λ f. ap (λ a. when is_done a then nothing else refusal (Acting n) (change_of a)) (first_stops first own f) ∙ if-false _ _ _ f)
+    ap (λ a. when is_done a then nothing else refusal (Some n) (change_of a)) (first_passes first own t) ∙ quiet-nothing n (first_of own) quiet
+    ∙ ap (λ a. refusal (Some n) (change_of a)) (sym (done-is (first_of first) t)))
+    (λ f. ap (λ a. when is_done a then nothing else refusal (Some n) (change_of a)) (first_stops first own f) ∙ if-false _ _ _ f)
 
 -- a write that passes checks 1 to 4 is answered by its own
 pub own-answer : (s : State) (n : ℕ) (supported : Bool) → is_done (first_of (check1 s ∷ heard_of s n)) ≡ true
@@ -242,7 +239,7 @@ permitted-quiet true b = refl
 permitted-quiet false true = refl
 permitted-quiet false false = refl
 
-pub write-effect : (s : State) (n : ℕ) (supported : Bool) → effect s (write n supported) ≡ refusal (Acting n) (change_of (first_of (check1 s ∷ heard_of s n)))
+pub write-effect : (s : State) (n : ℕ) (supported : Bool) → effect s (write n supported) ≡ refusal (Some n) (change_of (first_of (check1 s ∷ heard_of s n)))
 unfolding effect_by answer checks
 write-effect s n supported =
     heard-effect s n (permitted (nexus_at s n) (selected_set s n) supported)
@@ -250,32 +247,33 @@ write-effect s n supported =
 
 -- a read's own answers are 0 and 14 to 17, which change nothing
 pub record ReadRuling (v : Ruling) : Type 0 where
-  pub number : read_number (number_of v.answer) ≡ true
-  pub quiet : change_of v.answer ≡ Unchanged
+  pub number : read_number (number_of (ruled_answer v)) ≡ true
+  pub quiet : change_of (ruled_answer v) ≡ Unchanged
+  pub given : is_ok v ≡ is_done (ruled_answer v)
 
 -- one of two, and each by itself
 either : (b : Bool) {x y : Ruling} → ReadRuling x → ReadRuling y → ReadRuling (when b then x else y)
 either b p q = if-elim ReadRuling b (λ t. p) (λ f. q)
 
-each : (a : Answer) (decision : ReadDecision) → read_number (number_of a) ≡ true → change_of a ≡ Unchanged → ReadRuling (record { answer = a; decision = decision })
-each a decision n q = record { number = n; quiet = q }
+each : (v : Ruling) → read_number (number_of (ruled_answer v)) ≡ true → change_of (ruled_answer v) ≡ Unchanged → is_ok v ≡ is_done (ruled_answer v) → ReadRuling v
+each v n q g = record { number = n; quiet = q; given = g }
 
 pub restored-own : (set : Set) (block : Block) → ReadRuling (restored set block)
 unfolding under_mode
 restored-own set block =
     let mode = set.fields.decryption in
     let is_plain = eqb block.kind plain_kind in
-    either (not_known set block) (each _ _ refl refl)
-    (either (eqb mode disable) (either is_plain (each _ _ refl refl) (each _ _ refl refl))
-    (either (eqb mode raw) (either is_plain (each _ _ refl refl) (each _ _ refl refl))
-    (either is_plain (either (eqb mode decrypt) (each _ _ refl refl) (each _ _ refl refl))
-    (either (eqb block.kind encrypted_kind) (either (eqb block.key no_key) (each _ _ refl refl) (each _ _ refl refl)) (each _ _ refl refl)))))
+    either (not_known set block) (each _ refl refl refl)
+    (either (eqb mode disable) (either is_plain (each _ refl refl refl) (each _ refl refl refl))
+    (either (eqb mode raw) (either is_plain (each _ refl refl refl) (each _ refl refl refl))
+    (either is_plain (either (eqb mode decrypt) (each _ refl refl refl) (each _ refl refl refl))
+    (either (eqb block.kind encrypted_kind) (either (eqb block.key no_key) (each _ refl refl refl) (each _ refl refl refl)) (each _ refl refl refl)))))
 
-pub read-effect : (s : State) (n : ℕ) (block : Block) → effect s (read n block) ≡ refusal (Acting n) (change_of (first_of (check1 s ∷ heard_of s n)))
+pub read-effect : (s : State) (n : ℕ) (block : Block) → effect s (read n block) ≡ refusal (Some n) (change_of (first_of (check1 s ∷ heard_of s n)))
 unfolding effect_by answer checks
 read-effect s n block =
-    let ruling = restored (selected_set s n) block in
-    heard-effect s n (ruling.answer ∷ []) (ap change_of (last-is ruling.answer) ∙ (restored-own (selected_set s n) block).quiet)
+    let own = ruled_answer (restored (selected_set s n) block) in
+    heard-effect s n (own ∷ []) (ap change_of (last-is own) ∙ (restored-own (selected_set s n) block).quiet)
 
 -- ---- no effect changes the number of places or of nexuses
 
@@ -289,7 +287,7 @@ unfolding changes
 changes-size s n change = nexuses-size s _ (length-set s.nexuses n _) refl
 
 -- flags
-flagged-size : (differ : ℕ → Bool) (actor : Actor) (s x : State) → SameSize x (flagged differ actor s x)
+flagged-size : (differ : ℕ → Bool) (actor : Option ℕ) (s x : State) → SameSize x (flagged differ actor s x)
 unfolding flagged
 flagged-size differ actor s x = nexuses-size x _ (length-map_from _ 0 x.nexuses) refl
 

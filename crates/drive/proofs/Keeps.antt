@@ -1,5 +1,6 @@
 -- A record whose sets and nexuses are made anew, but for parts that no rule reads: every call has the effect that it had.
 -- Assumes nothing.
+use Rattle.std.specs.Prelude.{Some, None}
 use Prim.Native.Nat.{ℕ}
 use mathlib.Core.Bool.{Bool, not, ◌&&◌}
 use mathlib.Core.List.{List, [], ◌∷◌, ◌++◌, map}
@@ -11,20 +12,17 @@ use Rattle.arrays.proofs.Laws.{fold_from-map}
 use Rattle.answer.specs.Answers.{is_done, change_of}
 use Rattle.answer.specs.declared.Answer.TheVariants.{NotWellFormed, NoPlaceForLocal}
 use Rattle.answer.specs.declared.Change.TheVariants.{Registered}
-use Rattle.page.specs.Check.{checked}
+use Rattle.page.specs.Check.{Checked, checked}
 use Rattle.page.specs.declared.Page.{Page}
-use Rattle.page.specs.declared.Checked.{Checked}
 use Rattle.parameters.specs.Codes.{local_scope}
 use Rattle.device.specs.Record.{State, nexus_at}
 use Rattle.device.specs.Updates.{mapped}
 use Rattle.device.specs.WellFormed.{well_formed}
 use Rattle.device.specs.declared.Set.{Set}
 use Rattle.device.specs.declared.Nexus.{Nexus}
-use Rattle.device.specs.declared.Found.TheVariants.{At, Nowhere}
 use Rattle.places.specs.Actions.{release, releases, own_place, empty_local, unlocked_local, free_at, evicting_at, room, is_no_room, page_actions, released_by}
 use Rattle.places.specs.declared.Event.{Event}
 use Rattle.places.specs.declared.Event.TheVariants.{Demount, NexusLoss, DeviceLoss, Preempt, Microcode, VendorRelease}
-use Rattle.marks.specs.declared.Actor.TheVariants.{Acting}
 use Rattle.drive.specs.declared.Command.{Command}
 use Rattle.drive.specs.Calls.{Call, power_up, security_in, security_out, write, read, unit_reset, happens}
 use Rattle.status.specs.Pages.{is_in_page, is_out_page}
@@ -72,14 +70,14 @@ module _ (f : Set → Set) (g : Nexus → Nexus) (k : Keeps f g) where
     -- the nexus's own place
     own-kept : (n : ℕ) → own_place t n ≡ own_place s n
     unfolding own_place
-    own-kept n = ap₂ (λ a b. when eqb a local_scope then b else Nowhere) (scope_kept n) (owned-seen f g k.seen c s n)
+    own-kept n = ap₂ (λ a b. when eqb a local_scope then b else None) (scope_kept n) (owned-seen f g k.seen c s n)
 
     -- the place of a LOCAL page
     room-kept : (n : ℕ) → room t n ≡ room s n
     unfolding room
     room-kept n =
-        let free : find At Nowhere empty_local t.sets ≡ find At Nowhere empty_local s.sets = find-kept f g k.seen empty_local empty_local (λ i x. ap (λ a. not (eqb i 0) && eqb a 0) (k.seen.scope x)) s.sets in
-        let lent : find At Nowhere (unlocked_local t) t.sets ≡ find At Nowhere (unlocked_local s) s.sets =
+        let free : find Some None empty_local t.sets ≡ find Some None empty_local s.sets = find-kept f g k.seen empty_local empty_local (λ i x. ap (λ a. not (eqb i 0) && eqb a 0) (k.seen.scope x)) s.sets in
+        let lent : find Some None (unlocked_local t) t.sets ≡ find Some None (unlocked_local s) s.sets =
         find-kept f g k.seen (unlocked_local t) (unlocked_local s)
         (λ i x. ap (λ o. not (eqb i 0) && not (nexus_at t o).lock) (k.seen.owner x) ∙ ap (λ l. not (eqb i 0) && not l) (nexus-seen f g k.seen c s (λ y. y.lock) k.lock x.owner))
         s.sets in
@@ -142,12 +140,12 @@ module _ (f : Set → Set) (g : Nexus → Nexus) (k : Keeps f g) where
       pub effect-kept : (call : Call) → effect t call ≡ effect s call
       unfolding effect_by answer checks
       effect-kept power_up = refl
-      effect-kept (security_in command) = ap (λ a. when is_done a then marks command.nexus Registered else refusal (Acting command.nexus) (change_of a)) (in_kept command)
+      effect-kept (security_in command) = ap (λ a. when is_done a then marks command.nexus Registered else refusal (Some command.nexus) (change_of a)) (in_kept command)
       effect-kept (security_out command page) =
-          ap₂ (λ a (p : Checked). when is_done a then takes command.nexus p.page else refusal (Acting command.nexus) (change_of a)) (out-kept command page) (page-kept command.nexus page)
+          ap₂ (λ a (p : Checked). when is_done a then takes command.nexus p.page else refusal (Some command.nexus) (change_of a)) (out-kept command page) (page-kept command.nexus page)
       effect-kept (write n supported) =
-          write-effect t n supported ∙ ap (λ l. refusal (Acting n) (change_of (first_of l))) (first-kept n) ∙ sym (write-effect s n supported)
+          write-effect t n supported ∙ ap (λ l. refusal (Some n) (change_of (first_of l))) (first-kept n) ∙ sym (write-effect s n supported)
       effect-kept (read n block) =
-          read-effect t n block ∙ ap (λ l. refusal (Acting n) (change_of (first_of l))) (first-kept n) ∙ sym (read-effect s n block)
+          read-effect t n block ∙ ap (λ l. refusal (Some n) (change_of (first_of l))) (first-kept n) ∙ sym (read-effect s n block)
       effect-kept unit_reset = ap (λ a. when is_done a then clears else nothing) reset-kept
       effect-kept (happens event) = ap (λ a. when is_done a then releasing event else nothing) (event-kept event)

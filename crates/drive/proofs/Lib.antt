@@ -3,6 +3,7 @@ pub mod Effects
 pub mod Events
 pub mod Records
 pub mod Serving
+pub mod Passing
 pub mod Keeps
 pub mod Refusals
 pub mod Restoring

@@ -1,5 +1,6 @@
 -- Calls of a record with words.
 -- Assumes nothing.
+use Rattle.std.specs.Prelude.{Some}
 use Prim.Native.Nat.{ℕ, ◌<◌}
 use mathlib.Core.Path.{◌≡◌, refl, sym, ap, ◌∙◌}
 use mathlib.Core.Bool.{Bool, true, false, ◌||◌}
@@ -16,7 +17,6 @@ use Rattle.device.specs.Record.{State}
 use Rattle.device.specs.Words.{Worded, with_words, keeping, formed}
 use Rattle.words.proofs.Words.{formed-is}
 use Rattle.marks.specs.Marks.{changes}
-use Rattle.marks.specs.declared.Actor.TheVariants.{Acting}
 use Rattle.marks.proofs.Changes.{unchanged}
 use Rattle.marks.proofs.ByWords.{told-by-words, changes-words, cleared-words}
 use Rattle.places.specs.Actions.{releases, released_by, spared, taken}
@@ -36,7 +36,7 @@ held_after_lem s some nothing = refl
 held_after_lem s some (marks n change) = λ i. record { state = changes s n change; words = sym (changes-words s n change) i }
 held_after_lem s some (takes n page) =
     let size = size-then (taken-size s n page) (changes-size (taken s n page) n Registered) in
-    told-by-words (Acting n) s (changes (taken s n page) n Registered) some size.places size.nexuses
+    told-by-words (Some n) s (changes (taken s n page) n Registered) some size.places size.nexuses
 held_after_lem s some clears = λ i. record { state = changed_by s clears; words = sym (cleared-words s) i }
 held_after_lem s some (releasing event) =
     cases (each (spared (released_by event)) s.sets)
@@ -47,7 +47,7 @@ held_after_lem s some (releasing event) =
 held_after_lem s some restarts = refl
 
 -- what a refusal does to the record is what its row says
-pub held-refusal : (r : Worded) (n : ℕ) (change : Change) → keeping r.words (changes r.state n change) ≡ held_after r (refusal (Acting n) change)
+pub held-refusal : (r : Worded) (n : ℕ) (change : Change) → keeping r.words (changes r.state n change) ≡ held_after r (refusal (Some n) change)
 unfolding held_after changed_by
 held-refusal r n Unchanged = ap (keeping r.words) (unchanged r.state n)
 held-refusal r n AnotherCleared = refl
@@ -91,7 +91,7 @@ unfolding answer_where
 unformed-due r call p f = sym (simp (f, p))
 
 -- a call that changes at most its sender's marks keeps the words
-pub held-marks : (r : Worded) (call : Call) (n : ℕ) → sender_of call ≡ Acting n → keeping r.words (carried_out by_number r.state (doing r.state call)) ≡ held_after r (doing r.state call)
+pub held-marks : (r : Worded) (call : Call) (n : ℕ) → sender_of call ≡ Some n → keeping r.words (carried_out by_number r.state (doing r.state call)) ≡ held_after r (doing r.state call)
     → (a : Answer) → keeping r.words (carried_out by_number r.state (effect_by r.state call a)) ≡ held_after r (effect_by r.state call a)
 unfolding effect_by
 held-marks r call n e d a =

@@ -1,5 +1,6 @@
 -- Every call and every answer: what a refusal leaves of the record, and what an answer carries.
 -- Assumes nothing.
+use Rattle.std.specs.Prelude.{ℕ, Option, Some, None}
 use Prim.Native.Nat.{ℕ, ◌≤◌}
 use mathlib.Core.Path.{◌≡◌, refl, sym, ap, subst, ◌∙◌}
 use mathlib.Core.Bool.{false}
@@ -18,8 +19,6 @@ use Rattle.device.specs.Record.{State, nexus_at, new_nexus}
 use Rattle.device.specs.Updates.{with_nexuses}
 use Rattle.device.specs.declared.Nexus.{Nexus}
 use Rattle.marks.specs.Marks.{remarked, changed, changes, is_actor}
-use Rattle.marks.specs.declared.Actor.{Actor}
-use Rattle.marks.specs.declared.Actor.TheVariants.{Nobody, Acting}
 use Rattle.drive.specs.Calls.{Call, security_in, write, read, sender_of}
 use Rattle.drive.specs.Checks.{answer}
 use Rattle.drive.specs.Effects.{Effect, doing, refusal, effect_by}
@@ -32,10 +31,10 @@ use Rattle.drive.proofs.Effects.{refusal-changes}
 -- ---- the record
 
 -- a refusal does what its row says, to its sender
-refused-does : (rule : Telling) (s : State) (sender : Actor) (change : Change) → carried_out rule s (refusal sender change) ≡ changes_by sender change s
+refused-does : (rule : Telling) (s : State) (sender : Option ℕ) (change : Change) → carried_out rule s (refusal sender change) ≡ changes_by sender change s
 unfolding carried_out changed_by
-refused-does rule s Nobody change = refl
-refused-does rule s (Acting n) change = refusal-changes rule s n change
+refused-does rule s None change = refl
+refused-does rule s (Some n) change = refusal-changes rule s n change
 
 -- A refused call makes of the record what the fourth column of its answer's row says of its sender's marks; without a sender, nothing.
 pub refusals-change : (s : State) (call : Call) → is_done (answer s call) ≡ false → after s call ≡ changes_by (sender_of call) (change_of (answer s call)) s
@@ -45,9 +44,9 @@ refusals-change s call f =
     ∙ refused-does by_number s (sender_of call) (change_of (answer s call))
 
 -- what that leaves, part by part
-pub changes-marks : (sender : Actor) (change : Change) (s : State) → OnlyMarks sender change s (changes_by sender change s)
+pub changes-marks : (sender : Option ℕ) (change : Change) (s : State) → OnlyMarks sender change s (changes_by sender change s)
 unfolding changes
-changes-marks Nobody change s = record {
+changes-marks None change s = record {
   counter = refl;
   sets = refl;
   count = refl;
@@ -56,7 +55,7 @@ changes-marks Nobody change s = record {
   nobody = λ e. refl;
   above = λ n t. clash t refl;
 }
-changes-marks (Acting m) change s = record {
+changes-marks (Some m) change s = record {
   counter = refl;
   sets = refl;
   count = length-set s.nexuses m _;
@@ -69,7 +68,7 @@ changes-marks (Acting m) change s = record {
       (ap (λ (k : ℕ). get_or (set s.nexuses k (remarked (changed change) (nexus_at s k))) n new_nexus) q
       ∙ get_or-set_same s.nexuses n (remarked (changed change) (nexus_at s n)) new_nexus h))
       (record { scope = refl; lock = refl; saved = refl; last_local = refl; marks = refl });
-  nobody = λ e. clash (eq-eqb m m refl) (ap (λ (a : Actor). is_actor a m) e);
+  nobody = λ e. clash (eq-eqb m m refl) (ap (λ (a : Option ℕ). is_actor a m) e);
   above = λ n t h.
       ap (λ (l : List Nexus). with_nexuses l s)
       (set_out s.nexuses m _ (subst (λ (k : ℕ). length s.nexuses ≤ k) (sym (eqb-true m n t)) h));

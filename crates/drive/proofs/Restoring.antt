@@ -1,5 +1,6 @@
 -- Document 02, request 1: what holds of every read.
 -- Assumes nothing.
+use Rattle.std.specs.Prelude.{Some}
 use Prim.Native.Nat.{ℕ, ◌+◌, ◌*◌, ◌/◌, ◌%◌, ◌<◌}
 use mathlib.Core.Path.{◌≡◌, refl, sym, ap, ap₂, subst, ◌∙◌}
 use mathlib.Core.Logic.{◌⊎◌, inl, inr, ⊎_elim}
@@ -27,16 +28,14 @@ use Rattle.device.specs.declared.Set.{Set}
 use Rattle.device.specs.declared.Nexus.{Nexus}
 use Rattle.device.specs.declared.Marks.{Marks}
 use Rattle.marks.specs.Marks.{changes, changed}
-use Rattle.marks.specs.declared.Actor.TheVariants.{Acting}
 use Rattle.drive.specs.declared.Block.{Block}
 use Rattle.drive.specs.declared.ReadDecision.TheVariants.{Withheld, Decrypted}
-use Rattle.drive.specs.declared.Ruling.{Ruling}
 use Rattle.drive.specs.Calls.{write, read}
 use Rattle.drive.specs.Checks.{first_of, check1, heard_of, permitted, checks, answer}
 use Rattle.drive.specs.Effects.{refusal}
 use Rattle.drive.specs.After.{by_number, carried_out, actions_of, after}
 use Rattle.drive.specs.Outcomes.{read_decision, decided_place}
-use Rattle.drive.specs.Restoring.{plain_kind, encrypted_kind, other_kind, no_key, block_of, passes, under_mode, holds_key, has_key, not_known, restored}
+use Rattle.drive.specs.Restoring.{plain_kind, encrypted_kind, other_kind, no_key, block_of, Ruling, passes, ruled_answer, ruled_decision, under_mode, holds_key, has_key, not_known, restored}
 use Rattle.drive.specs.Refusals.{OnlyMarks}
 use Rattle.drive.specs.RestoringClaims.{Had, without_locks, ReadAlike, read_number, only_flag, ReadLeaves, Known, StopDue, GivenDue, GivenBack}
 use Rattle.drive.specs.Claims.{block}
@@ -60,7 +59,7 @@ without-alike s n block =
     let p = selected-seen _ _ unlocks (λ c. c) s n in
     record {
       answered = a;
-      decided = λ i. when is_done (a i) then (v i).decision else Withheld;
+      decided = λ i. when is_done (a i) then ruled_decision (v i) else Withheld;
       placed = λ i. when is_done (a i) then p i else 0;
     }
 
@@ -78,12 +77,12 @@ lock-free s t e n block =
 -- ---- the answer
 
 -- what is told by the first checks that find a fault, else by a read's own
-pub first-or-own : (P : Answer → Type 0) (s : State) (n : ℕ) (block : Block) → P (first_of (check1 s ∷ heard_of s n)) → P (restored (selected_set s n) block).answer
+pub first-or-own : (P : Answer → Type 0) (s : State) (n : ℕ) (block : Block) → P (first_of (check1 s ∷ heard_of s n)) → P (ruled_answer (restored (selected_set s n) block))
     → P (answer s (read n block))
 unfolding answer checks
 first-or-own P s n block first own =
     let front = check1 s ∷ heard_of s n in
-    let a = (restored (selected_set s n) block).answer in
+    let a = ruled_answer (restored (selected_set s n) block) in
     cases (is_done (first_of front))
     (λ t. subst P (sym (first_passes front (a ∷ []) t ∙ last-is a)) own)
     (λ f. subst P (sym (first_stops front (a ∷ []) f)) first)
@@ -112,7 +111,7 @@ read-change : (s : State) (n : ℕ) (block : Block) → change_of (first_of (che
 unfolding answer checks
 read-change s n block =
     let front = check1 s ∷ heard_of s n in
-    let a = (restored (selected_set s n) block).answer in
+    let a = ruled_answer (restored (selected_set s n) block) in
     cases (is_done (first_of front))
     (λ t. ap change_of (done-is (first_of front) t) ∙ sym (ap change_of (first_passes front (a ∷ []) t ∙ last-is a) ∙ (restored-own (selected_set s n) block).quiet))
     (λ f. ap change_of (sym (first_stops front (a ∷ []) f)))
@@ -123,7 +122,7 @@ read-after s n block =
     ap (carried_out by_number s) (read-effect s n block) ∙ refusal-changes by_number s n _ ∙ ap (changes s n) (read-change s n block)
 
 -- a refusal acts on no place
-refusal-acts : (s : State) (n : ℕ) (change : Change) → actions_of s (refusal (Acting n) change) ≡ []
+refusal-acts : (s : State) (n : ℕ) (change : Change) → actions_of s (refusal (Some n) change) ≡ []
 unfolding actions_of
 refusal-acts s n Unchanged = refl
 refusal-acts s n AnotherCleared = refl
@@ -142,7 +141,7 @@ pub read-leaves : (s : State) (n : ℕ) (block : Block) → ReadLeaves s n block
 read-leaves s n block =
     let change = change_of (answer s (read n block)) in
     let flag = (read_asked s n block).1 in
-    let only : OnlyMarks (Acting n) change s (after s (read n block)) = subst (OnlyMarks (Acting n) change s) (sym (read-after s n block)) (changes-marks (Acting n) change s) in
+    let only : OnlyMarks (Some n) change s (after s (read n block)) = subst (OnlyMarks (Some n) change s) (sym (read-after s n block)) (changes-marks (Some n) change s) in
     record {
       acts = ap (actions_of s) (read-effect s n block) ∙ refusal-acts s n (change_of (first_of (check1 s ∷ heard_of s n)));
       draws = only.counter;
@@ -162,7 +161,7 @@ read-leaves s n block =
 module _ (set : Set) (block : Block) where
   -- a ruling, both parts
   abbrev Both : Ruling → Type 0
-  Both r = StopDue set block r.answer × GivenDue set block r.decision
+  Both r = StopDue set block (ruled_answer r) × GivenDue set block (ruled_decision r)
 
   -- check 14's test of a key
   abbrev is_key : Bool
@@ -257,12 +256,12 @@ given_back s n supported w h =
     let front = check1 s ∷ heard_of s n in
     let ruling = main-opens (selected_set s n) h in
     let own = permitted (nexus_at s n) (selected_set s n) supported in
-    let a = (restored (selected_set s n) (block encrypted_kind 0)).answer in
+    let a = ruled_answer (restored (selected_set s n) (block encrypted_kind 0)) in
     let read_done : answer s (read n (block encrypted_kind 0)) ≡ Done =
-    first_passes front (a ∷ []) (front-done front own w) ∙ last-is a ∙ ap (λ (v : Ruling). v.answer) ruling in
+    first_passes front (a ∷ []) (front-done front own w) ∙ last-is a ∙ ap ruled_answer ruling in
     record {
       done = read_done;
-      decrypted = ap (read_decision s n (block encrypted_kind 0)) read_done ∙ ap (λ (v : Ruling). v.decision) ruling;
+      decrypted = ap (read_decision s n (block encrypted_kind 0)) read_done ∙ ap ruled_decision ruling;
       placed = ap (decided_place s n) (read_done ∙ sym (done-is (answer s (write n supported)) w));
     }
 

@@ -1,6 +1,7 @@
 -- A record whose sets and nexuses are made anew, but for who owns what and who is told: each nexus uses the place that it used, the record
 -- is as well formed, and checks 1 to 4 answer as they did.
 -- Assumes nothing.
+use Rattle.std.specs.Prelude.{Some, None}
 use Prim.Native.Nat.{ℕ, ◌+◌}
 use mathlib.Core.Bool.{Bool, true, not, ◌&&◌, ◌||◌}
 use mathlib.Core.List.{List, [], ◌∷◌, ◌++◌, map}
@@ -18,9 +19,8 @@ use Rattle.device.specs.Selecting.{owns, owned_place, or_else, selected, selecte
 use Rattle.device.specs.WellFormed.{set_good, nexus_good, owner_is_local, has_all, well_formed}
 use Rattle.device.specs.declared.Set.{Set}
 use Rattle.device.specs.declared.Nexus.{Nexus}
-use Rattle.device.specs.declared.Found.TheVariants.{At, Nowhere}
 use Rattle.drive.specs.declared.Block.{Block}
-use Rattle.drive.specs.Restoring.{restored}
+use Rattle.drive.specs.Restoring.{ruled_answer, restored}
 use Rattle.drive.specs.Calls.{read}
 use Rattle.drive.specs.Checks.{answer_if, first_of, check1, heard, heard_of, checks, answer}
 
@@ -37,8 +37,8 @@ module _ (f : Set → Set) (g : Nexus → Nexus) (k : Seen f g) where
   owns-kept n x = ap₂ (λ a b. eqb a local_scope && eqb b n) (k.scope x) (k.owner x)
 
   -- a search among the sets, where the tests agree
-  pub find-kept : (p q : ℕ → Set → Bool) → ((i : ℕ) (x : Set) → p i (f x) ≡ q i x) → (l : List Set) → find At Nowhere p (map f l) ≡ find At Nowhere q l
-  find-kept p q e l = fold_from-map f (λ i x r. when p i x then At i else r) (λ i x r. when q i x then At i else r) Nowhere (λ i x r. ap (λ b. when b then At i else r) (e i x)) 0 l
+  pub find-kept : (p q : ℕ → Set → Bool) → ((i : ℕ) (x : Set) → p i (f x) ≡ q i x) → (l : List Set) → find Some None p (map f l) ≡ find Some None q l
+  find-kept p q e l = fold_from-map f (λ i x r. when p i x then Some i else r) (λ i x r. when q i x then Some i else r) None (λ i x r. ap (λ b. when b then Some i else r) (e i x)) 0 l
 
   -- a test of each element, where the tests agree
   each-kept : {A : Type 0} (h : A → A) (p q : ℕ → A → Bool) → ((i : ℕ) (x : A) → p i (h x) ≡ q i x) → (l : List A) → each p (map h l) ≡ each q l
@@ -126,4 +126,4 @@ module _ (f : Set → Set) (g : Nexus → Nexus) (k : Seen f g) where
       unfolding answer checks
       read_kept n block e =
           let v = used-seen (λ x. restored x block) e n in
-          λ i. first_of (heard-kept n i ++ (v i).answer ∷ [])
+          λ i. first_of (heard-kept n i ++ ruled_answer (v i) ∷ [])

@@ -1,11 +1,9 @@
 -- The record after a call.
-use Rattle.std.specs.Prelude.{ℕ, Bool, List, [], length}
+use Rattle.std.specs.Prelude.{ℕ, Bool, List, [], length, Option, Some, None}
 use Rattle.answer.specs.declared.Change.TheVariants.{Registered}
 use Rattle.device.specs.Record.{State, power_on}
 use Rattle.marks.specs.Marks.{changes, differs, flagged}
 use Rattle.marks.specs.Reset.{cleared}
-use Rattle.marks.specs.declared.Actor.{Actor}
-use Rattle.marks.specs.declared.Actor.TheVariants.{Nobody, Acting}
 use Rattle.places.specs.Actions.{Action, acts, releases, released_by, page_actions, taken}
 use Rattle.places.specs.declared.Event.{Event}
 use Rattle.places.specs.declared.Event.TheVariants.{Demount, NexusLoss, DeviceLoss, Preempt, Microcode, VendorRelease}
@@ -31,13 +29,13 @@ changed_by s (releasing event) = acts s (releases (released_by event) s.sets)
 changed_by s restarts = power_on (length s.nexuses) (length s.sets)
 
 -- who acts in an event
-abbrev pub actor_of : Event → Actor
-actor_of Demount = Nobody
-actor_of (NexusLoss n) = Nobody
-actor_of DeviceLoss = Nobody
-actor_of (Preempt n) = Acting n
-actor_of Microcode = Nobody
-actor_of (VendorRelease place) = Nobody
+abbrev pub actor_of : Event → Option ℕ
+actor_of Demount = None
+actor_of (NexusLoss n) = None
+actor_of DeviceLoss = None
+actor_of (Preempt n) = Some n
+actor_of Microcode = None
+actor_of (VendorRelease place) = None
 
 -- "After a page or event" nexuses are told. How it is seen that the set a nexus uses differs is a rule: it is given the actions,
 -- the record before and the record after.
@@ -47,7 +45,7 @@ Telling = List Action → State → State → ℕ → Bool
 unfoldable pub carried_out : Telling → State → Effect → State
 carried_out rule s nothing = changed_by s nothing
 carried_out rule s (marks n change) = changed_by s (marks n change)
-carried_out rule s (takes n page) = let t = changed_by s (takes n page) in flagged (rule (actions_of s (takes n page)) s t) (Acting n) s t
+carried_out rule s (takes n page) = let t = changed_by s (takes n page) in flagged (rule (actions_of s (takes n page)) s t) (Some n) s t
 carried_out rule s clears = changed_by s clears
 carried_out rule s (releasing event) = let t = changed_by s (releasing event) in flagged (rule (actions_of s (releasing event)) s t) (actor_of event) s t
 carried_out rule s restarts = changed_by s restarts

@@ -1,10 +1,8 @@
 -- The calls of document 01, and the read of document 02. An event is any that may release sets.
-use Rattle.std.specs.Prelude.{ℕ, Bool, true, false, List}
+use Rattle.std.specs.Prelude.{ℕ, Bool, true, false, List, Option, Some, None}
 use Rattle.places.specs.declared.Event.{Event}
 use Rattle.drive.specs.declared.Command.{Command}
 use Rattle.drive.specs.declared.Block.{Block}
-use Rattle.marks.specs.declared.Actor.{Actor}
-use Rattle.marks.specs.declared.Actor.TheVariants.{Nobody, Acting}
 
 pub data Call : Type 0 where
   power_up : Call
@@ -16,14 +14,14 @@ pub data Call : Type 0 where
   happens : Event → Call
 
 -- the nexus that sends a security command, a write or a read; other calls have none
-abbrev pub sender_of : Call → Actor
-sender_of power_up = Nobody
-sender_of (security_in command) = Acting command.nexus
-sender_of (security_out command page) = Acting command.nexus
-sender_of (write n supported) = Acting n
-sender_of (read n block) = Acting n
-sender_of unit_reset = Nobody
-sender_of (happens event) = Nobody
+abbrev pub sender_of : Call → Option ℕ
+sender_of power_up = None
+sender_of (security_in command) = Some command.nexus
+sender_of (security_out command page) = Some command.nexus
+sender_of (write n supported) = Some n
+sender_of (read n block) = Some n
+sender_of unit_reset = None
+sender_of (happens event) = None
 
 -- "Power-on takes no record"
 abbrev pub is_power_up : Call → Bool

@@ -5,9 +5,8 @@ use Rattle.answer.specs.Answers.{is_done}
 use Rattle.answer.specs.declared.Answer.{Answer}
 use Rattle.answer.specs.declared.Answer.TheVariants.{Done, NotWellFormed, NexusAbove, ChangedByAnotherNexus, ChangedByVendorEvent, ProtocolNotSupported, PageNotSupported, NoPlaceForLocal, KeyInstanceChanged, ParametersNotUsable, PlaceAbove}
 use Rattle.parameters.specs.Codes.{encrypts}
-use Rattle.page.specs.Check.{checked}
+use Rattle.page.specs.Check.{Checked, checked}
 use Rattle.page.specs.declared.Page.{Page}
-use Rattle.page.specs.declared.Checked.{Checked}
 use Rattle.device.specs.Record.{State, nexus_at}
 use Rattle.device.specs.Selecting.{selected_set}
 use Rattle.device.specs.WellFormed.{well_formed}
@@ -17,7 +16,7 @@ use Rattle.device.specs.declared.Nexus.{Nexus}
 use Rattle.status.specs.Pages.{is_in_page, is_out_page}
 use Rattle.drive.specs.declared.Command.{Command}
 use Rattle.drive.specs.Calls.{Call, power_up, security_in, security_out, write, read, unit_reset, happens, is_power_up}
-use Rattle.drive.specs.Restoring.{restored}
+use Rattle.drive.specs.Restoring.{ruled_answer, restored}
 use Rattle.places.specs.Actions.{no_place}
 use Rattle.places.specs.declared.Event.{Event}
 use Rattle.places.specs.declared.Event.TheVariants.{Demount, NexusLoss, DeviceLoss, Preempt, Microcode, VendorRelease}
@@ -113,7 +112,7 @@ checks s (security_out command page) =
     let read = page_checked s command.nexus page in
     commanded_of s command (is_out_page command.code) ++ read.answer ∷ check10 s command.nexus read.page ∷ []
 checks s (write n supported) = heard_of s n ++ permitted (nexus_at s n) (selected_set s n) supported
-checks s (read n block) = heard_of s n ++ (restored (selected_set s n) block).answer ∷ []
+checks s (read n block) = heard_of s n ++ ruled_answer (restored (selected_set s n) block) ∷ []
 checks s unit_reset = []
 checks s (happens event) = event_check (length s.nexuses) (length s.sets) event ∷ []
 

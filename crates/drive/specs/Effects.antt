@@ -1,5 +1,5 @@
 -- What a call does, once its answer is known.
-use Rattle.std.specs.Prelude.{ℕ}
+use Rattle.std.specs.Prelude.{ℕ, Option, Some, None}
 use Rattle.arrays.specs.Base.{when◌then◌else◌}
 use Rattle.answer.specs.Answers.{change_of, is_done}
 use Rattle.answer.specs.declared.Answer.{Answer}
@@ -7,8 +7,6 @@ use Rattle.answer.specs.declared.Change.{Change}
 use Rattle.answer.specs.declared.Change.TheVariants.{Unchanged, AnotherCleared, VendorCleared, Registered}
 use Rattle.page.specs.declared.Page.{Page}
 use Rattle.device.specs.Record.{State}
-use Rattle.marks.specs.declared.Actor.{Actor}
-use Rattle.marks.specs.declared.Actor.TheVariants.{Nobody, Acting}
 use Rattle.places.specs.declared.Event.{Event}
 use Rattle.drive.specs.Calls.{Call, power_up, security_in, security_out, write, read, unit_reset, happens, sender_of}
 use Rattle.drive.specs.Checks.{page_checked, answer}
@@ -32,12 +30,12 @@ doing s unit_reset = clears
 doing s (happens event) = releasing event
 
 -- one that is refused: what the row of its answer says of its sender's marks
-abbrev pub refusal : Actor → Change → Effect
-refusal Nobody change = nothing
-refusal (Acting n) Unchanged = nothing
-refusal (Acting n) AnotherCleared = marks n AnotherCleared
-refusal (Acting n) VendorCleared = marks n VendorCleared
-refusal (Acting n) Registered = marks n Registered
+abbrev pub refusal : Option ℕ → Change → Effect
+refusal None change = nothing
+refusal (Some n) Unchanged = nothing
+refusal (Some n) AnotherCleared = marks n AnotherCleared
+refusal (Some n) VendorCleared = marks n VendorCleared
+refusal (Some n) Registered = marks n Registered
 
 -- a call with that answer
 unfoldable pub effect_by : State → Call → Answer → Effect

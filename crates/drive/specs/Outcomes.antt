@@ -15,7 +15,7 @@ use Rattle.drive.specs.declared.Decision.TheVariants.{Refused, Clear, External, 
 use Rattle.drive.specs.declared.Block.{Block}
 use Rattle.drive.specs.declared.ReadDecision.{ReadDecision}
 use Rattle.drive.specs.declared.ReadDecision.TheVariants.{Withheld}
-use Rattle.drive.specs.Restoring.{restored}
+use Rattle.drive.specs.Restoring.{ruled_decision, restored}
 
 -- Document 01, "Response pages": the page of a code
 unfoldable pub response_page : State → ℕ → ℕ → List ℕ
@@ -56,4 +56,4 @@ decided_index s n a = when is_done a then (selected_set s n).fields.index else 0
 
 -- a read: plain, raw or decrypted, with the same place; a refused one carries neither
 abbrev pub read_decision : State → ℕ → Block → Answer → ReadDecision
-read_decision s n block a = when is_done a then (restored (selected_set s n) block).decision else Withheld
+read_decision s n block a = when is_done a then ruled_decision (restored (selected_set s n) block) else Withheld

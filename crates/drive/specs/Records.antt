@@ -1,11 +1,10 @@
 -- Document 02, request 7: calls of a record with words.
-use Rattle.std.specs.Prelude.{◌||◌, List, [], ◌∷◌}
+use Rattle.std.specs.Prelude.{◌||◌, List, [], ◌∷◌, Some}
 use Rattle.arrays.specs.Base.{when◌then◌else◌}
 use Rattle.arrays.specs.Arrays.{each}
 use Rattle.answer.specs.declared.Answer.{Answer}
 use Rattle.device.specs.Words.{Worded, with_words, keeping, formed}
 use Rattle.marks.specs.Parts.{told_by}
-use Rattle.marks.specs.declared.Actor.TheVariants.{Acting}
 use Rattle.places.specs.Actions.{spared, released_by}
 use Rattle.drive.specs.Calls.{Call, is_power_up}
 use Rattle.drive.specs.Checks.{answer_where}
@@ -30,7 +29,7 @@ after_all r (call ∷ later) = after_all (after_of r call) later
 unfoldable pub held_after : Worded → Effect → Worded
 held_after r nothing = r
 held_after r (marks n change) = keeping r.words (changed_by r.state (marks n change))
-held_after r (takes n page) = told_by (Acting n) r (changed_by r.state (takes n page))
+held_after r (takes n page) = told_by (Some n) r (changed_by r.state (takes n page))
 held_after r clears = keeping r.words (changed_by r.state clears)
 held_after r (releasing event) =
     when each (spared (released_by event)) r.state.sets then r

@@ -1,5 +1,5 @@
 -- What is claimed of every call (proofs/Refusals): what a refusal leaves of the record, and what an answer carries.
-use Rattle.std.specs.Prelude.{ℕ, ◌<◌, ◌≤◌, ◌≡◌, Bool, true, false, List, length, get_or}
+use Rattle.std.specs.Prelude.{ℕ, ◌<◌, ◌≤◌, ◌≡◌, Bool, true, false, List, length, get_or, Option, Some, None}
 use Rattle.answer.specs.Answers.{row, row_of, number_of, faulty_byte_of, is_done}
 use Rattle.answer.specs.Printed.{printed}
 use Rattle.answer.specs.declared.Row.{Row}
@@ -8,8 +8,6 @@ use Rattle.answer.specs.declared.Change.TheVariants.{Unchanged}
 use Rattle.device.specs.Record.{State, nexus_at}
 use Rattle.device.specs.declared.Nexus.{Nexus}
 use Rattle.marks.specs.Marks.{changed, changes, is_actor}
-use Rattle.marks.specs.declared.Actor.{Actor}
-use Rattle.marks.specs.declared.Actor.TheVariants.{Nobody, Acting}
 use Rattle.drive.specs.declared.Command.{Command}
 use Rattle.drive.specs.declared.Decision.TheVariants.{Refused}
 use Rattle.drive.specs.declared.Block.{Block}
@@ -19,9 +17,9 @@ use Rattle.drive.specs.Checks.{answer}
 use Rattle.drive.specs.Outcomes.{in_length, in_buffer, decision, decided_place, decided_index, read_decision}
 
 -- the record with a change in its sender's marks; where there is no sender, the record
-abbrev pub changes_by : Actor → Change → State → State
-changes_by Nobody change s = s
-changes_by (Acting n) change s = changes s n change
+abbrev pub changes_by : Option ℕ → Change → State → State
+changes_by None change s = s
+changes_by (Some n) change s = changes s n change
 
 -- a nexus with that change in its marks, and nothing else
 pub record Remarked (change : Change) (before after : Nexus) : Type 0 where
@@ -32,13 +30,13 @@ pub record Remarked (change : Change) (before after : Nexus) : Type 0 where
   pub marks : after.marks ≡ changed change before.marks
 
 -- a record with that change in its sender's marks, and nothing else, part by part
-pub record OnlyMarks (sender : Actor) (change : Change) (before after : State) : Type 0 where
+pub record OnlyMarks (sender : Option ℕ) (change : Change) (before after : State) : Type 0 where
   pub counter : after.counter ≡ before.counter
   pub sets : after.sets ≡ before.sets
   pub count : length after.nexuses ≡ length before.nexuses
   pub others : (n : ℕ) → is_actor sender n ≡ false → nexus_at after n ≡ nexus_at before n
   pub own : (n : ℕ) → is_actor sender n ≡ true → n < length before.nexuses → Remarked change (nexus_at before n) (nexus_at after n)
-  pub nobody : sender ≡ Nobody → after ≡ before
+  pub nobody : sender ≡ None → after ≡ before
   pub above : (n : ℕ) → is_actor sender n ≡ true → length before.nexuses ≤ n → after ≡ before
 
 -- the row of a number in the table, in which answer 8 carries that byte

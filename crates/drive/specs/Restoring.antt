@@ -1,13 +1,12 @@
 -- Document 02, request 1: "Reads must be decided too. Add a read decision for restoring hosts". A block is what the cipher engine reports
--- of it: its kind, and the key that opened it. A ruling is an answer, and what is given of the block.
-use Rattle.std.specs.Prelude.{ℕ, ◌/◌, ◌%◌, Bool, not, ◌&&◌, ◌||◌, leb, eqb}
+-- of it: its kind, and the key that opened it. A ruling is what is given of the block, or the answer that refuses it.
+use Rattle.std.specs.Prelude.{ℕ, ◌/◌, ◌%◌, Bool, not, ◌&&◌, ◌||◌, leb, eqb, Result, Ok, Err}
 use Rattle.arrays.specs.Base.{when◌then◌else◌}
 use Rattle.answer.specs.declared.Answer.{Answer}
 use Rattle.answer.specs.declared.Answer.TheVariants.{Done, BlockNotKnown, UnableToDecrypt, NotEncrypted, KeyIncorrect}
 use Rattle.parameters.specs.Codes.{disable, raw, decrypt, needs_key}
 use Rattle.device.specs.declared.Set.{Set}
 use Rattle.drive.specs.declared.Block.{Block}
-use Rattle.drive.specs.declared.Ruling.{Ruling}
 use Rattle.drive.specs.declared.ReadDecision.{ReadDecision}
 use Rattle.drive.specs.declared.ReadDecision.TheVariants.{Withheld, Plain, Raw, Decrypted}
 
@@ -29,12 +28,24 @@ no_key = 255
 abbrev pub block_of : ℕ → Block
 block_of argument = record { kind = argument / 256; key = argument % 256 }
 
+abbrev pub Ruling : Type 0
+Ruling = Result ReadDecision Answer
+
 -- a read that passes, and one that is stopped
 abbrev pub passes : ReadDecision → Ruling
-passes decision = record { answer = Done; decision = decision }
+passes decision = Ok decision
 
 abbrev pub stopped : Answer → Ruling
-stopped answer = record { answer = answer; decision = Withheld }
+stopped answer = Err answer
+
+-- how it is answered, and what is given
+abbrev pub ruled_answer : Ruling → Answer
+ruled_answer (Ok decision) = Done
+ruled_answer (Err answer) = answer
+
+abbrev pub ruled_decision : Ruling → ReadDecision
+ruled_decision (Ok decision) = decision
+ruled_decision (Err answer) = Withheld
 
 -- "Under DISABLE plain passes and others get 15 (7/74/01)."
 abbrev pub under_disable : ℕ → Ruling

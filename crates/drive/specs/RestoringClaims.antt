@@ -1,5 +1,5 @@
 -- What is claimed of reads (proofs/Restoring, proofs/RestoringTable).
-use Rattle.std.specs.Prelude.{ℕ, ◌-◌, ◌<◌, ◌≤◌, ◌≡◌, ◌⊎◌, Bool, true, false, ◌&&◌, ◌||◌, List, [], ◌∷◌, ◌++◌, map, leb, replicate}
+use Rattle.std.specs.Prelude.{ℕ, ◌-◌, ◌<◌, ◌≤◌, ◌≡◌, ◌⊎◌, Bool, true, false, ◌&&◌, ◌||◌, List, [], ◌∷◌, ◌++◌, map, leb, replicate, Some}
 use Rattle.arrays.specs.Base.{when◌then◌else◌}
 use Rattle.kad.specs.Kad.{no_kads}
 use Rattle.answer.specs.Answers.{number_of, change_of, is_done}
@@ -13,7 +13,6 @@ use Rattle.parameters.specs.declared.Fields.{Fields}
 use Rattle.device.specs.Record.{State, nexus_at, established}
 use Rattle.device.specs.declared.Set.{Set}
 use Rattle.device.specs.Updates.{with_lock, with_saved, with_scope, with_supplemental, at_place, at_nexus, mapped}
-use Rattle.marks.specs.declared.Actor.TheVariants.{Acting}
 use Rattle.drive.specs.declared.Block.{Block}
 use Rattle.drive.specs.declared.ReadDecision.{ReadDecision}
 use Rattle.drive.specs.declared.ReadDecision.TheVariants.{Withheld, Plain, Raw, Decrypted}
@@ -54,7 +53,7 @@ only_flag Registered = false
 pub record ReadLeaves (s : State) (n : ℕ) (block : Block) : Type 0 where
   pub acts : actions s (read n block) ≡ []
   pub draws : (after s (read n block)).counter ≡ s.counter
-  pub only : OnlyMarks (Acting n) (change_of (answer s (read n block))) s (after s (read n block))
+  pub only : OnlyMarks (Some n) (change_of (answer s (read n block))) s (after s (read n block))
   pub flag : only_flag (change_of (answer s (read n block))) ≡ true
   pub registered : (m : ℕ) → (nexus_at (after s (read n block)) m).marks.registered ≡ (nexus_at s m).marks.registered
 

@@ -1,8 +1,6 @@
 // The calls of document 01, as far as they go by one nexus, one set, one page or one event: the checks, and what is decided.
 #![tactic(auto)]
 
-use answer::Answer;
-
 // What a security command says of itself.
 #[derive(Clone, Copy)]
 pub struct Command {
@@ -20,7 +18,8 @@ pub enum Decision {
     Encrypted,
 }
 
-// Document 02, request 1. Block kinds: plain, encrypted under algorithm 1, encrypted otherwise.
+// Document 02, request 1. Block kinds: plain, encrypted under algorithm 1, encrypted otherwise. Numbers, since a block may report any byte:
+// check 14 refuses the others.
 pub const PLAIN_KIND: u8 = 0;
 
 pub const ENCRYPTED_KIND: u8 = 1;
@@ -37,18 +36,11 @@ pub struct Block {
     pub key: u8,
 }
 
-// What becomes of it.
+// What becomes of it: Withheld where the read is refused.
 #[derive(Clone, Copy)]
 pub enum ReadDecision {
     Withheld,
     Plain,
     Raw,
     Decrypted,
-}
-
-// How a read is answered, and what it gives: Withheld where it is refused.
-#[derive(Clone, Copy)]
-pub struct Ruling {
-    pub answer: Answer,
-    pub decision: ReadDecision,
 }

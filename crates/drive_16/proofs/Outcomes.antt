@@ -1,13 +1,13 @@
 -- What a call gives back, by what it is answered.
 -- Assumes nothing.
+use Rattle.std.specs.Prelude.{Some, None}
 use Prim.Native.Nat.{ℕ, ◌<◌}
 use mathlib.Core.Path.{◌≡◌, refl, sym, ap, ◌∙◌}
-use mathlib.Core.Bool.{Bool, true, false, not, ◌||◌}
+use mathlib.Core.Bool.{Bool, true, false}
 use mathlib.Core.List.{List}
-use borrow.Author.Tests.{not-false}
 use lib.ListN.{length}
 use Rattle.arrays.specs.Arrays.{each}
-use Rattle.arrays.proofs.Base.{cases, if-true, if-false, or-other, or_left_false, or_right_false}
+use Rattle.arrays.proofs.Base.{cases, if-true, if-false}
 use Rattle.wire.specs.Buffers.{shown}
 use Rattle.answer.specs.Answers.{sense_of, change_of, is_done}
 use Rattle.answer.specs.declared.Answer.{Answer}
@@ -19,11 +19,10 @@ use Rattle.device.specs.Words.{Worded, keeping}
 use Rattle.device.specs.Selecting.{selected, selected_set}
 use Rattle.marks.specs.Marks.{changes}
 use Rattle.marks.specs.Parts.{told_by}
-use Rattle.marks.specs.declared.Actor.TheVariants.{Nobody, Acting}
 use Rattle.drive.specs.Calls.{Call, security_in, security_out, write, read, happens, sender_of}
 use Rattle.places.specs.Actions.{no_place, spared, released_by}
 use Rattle.places.specs.declared.Event.{Event}
-use Rattle.drive.specs.Checks.{check10, page_checked, event_check, known_answer, checks}
+use Rattle.drive.specs.Checks.{check10, page_checked}
 use Rattle.drive.specs.Effects.{takes, doing, effect_by, releasing}
 use Rattle.drive.specs.After.{changed_by, actor_of}
 use Rattle.drive.specs.Records.{answer_of, held_after}
@@ -32,8 +31,7 @@ use Rattle.drive.specs.declared.Command.{Command}
 use Rattle.drive.specs.declared.Decision.TheVariants.{Refused}
 use Rattle.drive.specs.declared.Block.{Block}
 use Rattle.drive.specs.declared.ReadDecision.TheVariants.{Withheld}
-use Rattle.drive.specs.Restoring.{restored}
-use Rattle.drive.proofs.Checks.{last-is}
+use Rattle.drive.specs.Restoring.{ruled_decision, restored}
 use Rattle.drive.proofs.Records.{held-refusal, held-is}
 use Rattle.device_16.specs.Model.{record_of}
 use Rattle.drive_16.specs.Outcomes.{outcome_with, in_outcome_with, write_outcome_with, read_outcome_with, outcome, in_outcome, write_outcome, read_outcome, held_by, outcome_by, in_outcome_by, write_outcome_by, read_outcome_by, refused_record, refused_call, refused_in, refused_write, refused_read, unchanged, page_outcome}
@@ -63,21 +61,21 @@ module _ (r : Worded) (call : Call) (a : Answer) where
   record-done t = sym (simp t)
 
   -- after one that is refused: what the row says
-  record-refused : (n : ℕ) → sender_of call ≡ Acting n → is_done a ≡ false → refused_record r n a ≡ held_by r call a
+  record-refused : (n : ℕ) → sender_of call ≡ Some n → is_done a ≡ false → refused_record r n a ≡ held_by r call a
   unfolding effect_by
   record-refused n e f = sym (simp (f, e) (sym (held-refusal r n (change_of a))))
 
   -- nothing, where nobody sent it
-  record-kept : sender_of call ≡ Nobody → is_done a ≡ false → r ≡ held_by r call a
+  record-kept : sender_of call ≡ None → is_done a ≡ false → r ≡ held_by r call a
   unfolding effect_by held_after
   record-kept e f = sym (simp (f, e))
 
   -- the outcome of a call that is refused
-  pub out-refused : (n : ℕ) → sender_of call ≡ Acting n → is_done a ≡ false → refused_call r n a ≡ outcome_by r call a
+  pub out-refused : (n : ℕ) → sender_of call ≡ Some n → is_done a ≡ false → refused_call r n a ≡ outcome_by r call a
   unfolding outcome_by
   out-refused n e f = ap (λ (t : Worded). outcome_with t a) (record-refused n e f)
 
-  pub out-kept : sender_of call ≡ Nobody → is_done a ≡ false → unchanged r a ≡ outcome_by r call a
+  pub out-kept : sender_of call ≡ None → is_done a ≡ false → unchanged r a ≡ outcome_by r call a
   unfolding outcome_by
   out-kept e f = ap (λ (t : Worded). outcome_with t a) (record-kept e f)
 
@@ -145,11 +143,11 @@ module _ (r : Worded) (n : ℕ) (block : Block) (a : Answer) where
       λ i. record { after = record_of (record-refused r (read n block) a n refl f i); answer = a; sense = sense_of a; decision = none i; place = nowhere i }
 
   pub read_done : is_done a ≡ true
-      → record { after = record_of r; answer = a; sense = sense_of Done; decision = (restored (selected_set r.state n) block).decision; place = selected r.state n } ≡ read_outcome_by r n block a
+      → record { after = record_of r; answer = a; sense = sense_of Done; decision = ruled_decision (restored (selected_set r.state n) block); place = selected r.state n } ≡ read_outcome_by r n block a
   unfolding read_outcome_by held_after
   read_done t =
       let e : Done ≡ a = sym (done-is a t) in
-      let made : (restored (selected_set r.state n) block).decision ≡ read_decision r.state n block a = sym (simp t) in
+      let made : ruled_decision (restored (selected_set r.state n) block) ≡ read_decision r.state n block a = sym (simp t) in
       let where-it-is : selected r.state n ≡ decided_place r.state n a = sym (simp t) in
       λ i. record { after = record_of (record-done r (read n block) a t i); answer = a; sense = sense_of (e i); decision = made i; place = where-it-is i }
 
@@ -169,30 +167,19 @@ page-decides r command bytes a e =
     ∙ ap (λ (x : Answer). record { after = record_of (held_after r (takes n read)); answer = x; sense = sense_of Done }) done
     ∙ out-done r (security_out command bytes) a (ap is_done (sym done)))
 
--- an event that is refused, or releases nothing, leaves the record as it is
-module _ (r : Worded) (event : Event) (a : Answer) (done none : Bool) (d : done ≡ is_done a) (e : none ≡ each (spared (released_by event)) r.state.sets) where
-  pub event-kept : (not done || none) ≡ true → unchanged r a ≡ outcome_by r (happens event) a
+-- an event that is carried out
+module _ (r : Worded) (event : Event) where
+  -- one that releases nothing leaves the record as it is
+  pub event-spared : each (spared (released_by event)) r.state.sets ≡ true → unchanged r Done ≡ outcome_by r (happens event) Done
   unfolding held_after
-  event-kept h =
-      cases (is_done a)
-      (λ t.
-      let spares : each (spared (released_by event)) r.state.sets ≡ true = sym e ∙ or-other (not done) none h (ap not (d ∙ t)) in
+  event-spared spares =
       let same : r ≡ held_after r (releasing event) = sym (if-true _ _ _ spares) in
-      let is_zero : a ≡ Done = done-is a t in
-      (λ i. record { after = record_of (same i); answer = a; sense = sense_of (is_zero i) }) ∙ out-done r (happens event) a t)
-      (λ f. out-kept r (happens event) a refl f)
+      ap (λ (t : Worded). outcome_with t Done) same ∙ out-done r (happens event) Done refl
 
-  -- one that is carried out and releases something
-  pub event-done : (not done || none) ≡ false
-      → record { after = record_of (told_by (actor_of event) r (changed_by r.state (releasing event))); answer = a; sense = sense_of Done } ≡ outcome_by r (happens event) a
+  -- one that releases something
+  pub event-done : each (spared (released_by event)) r.state.sets ≡ false
+      → record { after = record_of (told_by (actor_of event) r (changed_by r.state (releasing event))); answer = Done; sense = sense_of Done } ≡ outcome_by r (happens event) Done
   unfolding held_after
-  event-done h =
-      let some : held_after r (releasing event) ≡ told_by (actor_of event) r (changed_by r.state (releasing event)) = if-false _ _ _ (sym e ∙ or_right_false (not done) none h) in
-      ap (λ (t : Worded). record { after = record_of t; answer = a; sense = sense_of Done }) (sym some)
-      ∙ out-done r (happens event) a (sym d ∙ not-false done (or_left_false (not done) none h))
-
--- the check of an event's argument decides, where the record is known to be well formed
-pub event-answered : (s : State) (event : Event) (nexuses places : ℕ) (a : Answer) → length s.nexuses ≡ nexuses → length s.sets ≡ places
-    → a ≡ event_check nexuses places event → a ≡ known_answer s (happens event)
-unfolding known_answer checks
-event-answered s event nexuses places a n p e = e ∙ sym (simp (n, p) (last-is (event_check nexuses places event)))
+  event-done f =
+      let some : held_after r (releasing event) ≡ told_by (actor_of event) r (changed_by r.state (releasing event)) = if-false _ _ _ f in
+      ap (λ (t : Worded). outcome_with t Done) (sym some) ∙ out-done r (happens event) Done refl

@@ -8,6 +8,7 @@ ghost use Rattle.device_16.specs.Model.{state, worded, record_of};
 ghost use Rattle.status.specs.Status.{status_of};
 ghost use Rattle.marks.specs.Parts.{told_by};
 ghost use Rattle.drive.specs.Calls.{security_in, security_out, unit_reset, happens};
+ghost use Rattle.page.specs.Check.{ruled};
 ghost use Rattle.drive.specs.Checks.{page_checked, known_answer};
 ghost use Rattle.drive.specs.Effects.{releasing};
 ghost use Rattle.drive.specs.After.{actor_of, changed_by};
@@ -18,12 +19,12 @@ ghost use Rattle.drive_16.specs.Outcomes.{powered_on, outcome, in_outcome, write
 use answer::{Answer, Change, Sense};
 use device_16::{Device, Record};
 use drive::{Block, Command, Decision, ReadDecision};
-use marks::Actor;
-use page::{Checked, Page};
+use page::Page;
 use places::Event;
 use sizes_16::{NEXUSES, PLACES};
 
-// The record after the call stands first in each outcome: behind a byte and its padding the compiler copies it twice more.
+// A refusal may change the record too, so an outcome is no Result. The record after the call stands first: behind a byte and its padding the
+// compiler copies it twice more.
 #[derive(Clone, Copy)]
 pub struct Outcome {
     pub after: Record,
@@ -61,14 +62,6 @@ pub struct ReadOutcome {
     pub place: usize,
 }
 
-// The word of the hosts that a set serves, 0 where refused.
-#[derive(Clone, Copy)]
-pub struct Served {
-    pub answer: Answer,
-    pub sense: Sense,
-    pub word: u64,
-}
-
 // Power-on takes no record, answers 0 and gives all zeros.
 pub fn power_on() -> Outcome
     ensures { result ≡ powered_on }
@@ -85,12 +78,10 @@ fn refuse(r: Record, n: u8, answer: Answer) -> Outcome
     ensures { result ≡ refused_call (worded r) n answer }
 {
     let row = answer_code::row_of(answer);
-    let sense = row.sense;
-    let change = row.change;
     Outcome {
-        after: marks_16::change_marks_in(r, n, change),
+        after: marks_16::change_marks_in(r, n, row.change),
         answer,
-        sense,
+        sense: row.sense,
     }
 }
 
@@ -117,16 +108,15 @@ fn status_of(d: Device, n: usize) -> status::Status
     status_code::status_with(nexus.scope, device_16::selected_set(d, n))
 }
 
+// Outcomes with data are refused each by a function of its own: their fields are not the same.
 fn refuse_in(r: Record, n: u8, answer: Answer) -> InOutcome
     ensures { result ≡ refused_in (worded r) n answer }
 {
-    let refused_call = refuse(r, n, answer);
-    let after = refused_call.after;
-    let sense = refused_call.sense;
+    let refused = refuse(r, n, answer);
     InOutcome {
-        after,
+        after: refused.after,
         answer,
-        sense,
+        sense: refused.sense,
         length: 0,
     }
 }
@@ -135,18 +125,15 @@ fn refuse_in(r: Record, n: u8, answer: Answer) -> InOutcome
 pub fn security_in_known(r: Record, command: Command, buffer: &mut [u8]) -> InOutcome
     ensures { (result ≡ known_in_outcome (worded r) command) × (buffer.new ≡ in_buffer (state r.device) command (known_answer (state r.device) (security_in command)) buffer.old) }
 {
-    let nexuses = r.device.nexuses;
-    let nexus = device_16::nexus_of(nexuses, command.nexus as usize);
-    let marks = nexus.marks;
+    let nexus = device_16::nexus_of(r.device.nexuses, command.nexus as usize);
     let supported = status_code::is_in_page(command.code);
-    let answer = drive_code::check_command(command, marks, NEXUSES, supported);
-    if !answer_code::is_done(answer) {
+    if let Err(answer) = drive_code::check_command(command, nexus.marks, NEXUSES, supported) {
         return refuse_in(r, command.nexus, answer);
     }
     let length = respond(r.device, command.nexus, command.code, buffer);
     InOutcome {
         after: marks_16::change_marks_in(r, command.nexus, Change::Registered),
-        answer,
+        answer: Answer::Done,
         sense: Sense::NONE,
         length,
     }
@@ -163,8 +150,8 @@ pub fn security_in(r: Record, command: Command, buffer: &mut [u8]) -> InOutcome
 }
 
 // Checks 7, 8 and 9, and the page read.
-pub fn check_page(d: Device, n: u8, page: &[u8]) -> Checked
-    ensures { result ≡ page_checked (state d) n page.now }
+pub fn check_page(d: Device, n: u8, page: &[u8]) -> Result<Page, Answer>
+    ensures { result ≡ ruled (page_checked (state d) n page.now) }
 {
     let nexus = device_16::nexus_at(d, n as usize);
     let sets = d.sets;
@@ -189,7 +176,7 @@ fn accept(r: Record, n: u8, page: Page) -> Outcome
     let taken = places_16::take_page(r.device, n, page, room);
     let registered = marks_16::change_marks(taken, n, Change::Registered);
     Outcome {
-        after: marks_16::tell(r, registered, Actor::Acting(n)),
+        after: marks_16::tell(r, registered, Some(n)),
         answer: Answer::Done,
         sense: Sense::NONE,
     }
@@ -199,21 +186,15 @@ fn accept(r: Record, n: u8, page: Page) -> Outcome
 pub fn security_out_known(r: Record, command: Command, page: &[u8]) -> Outcome
     ensures { result ≡ known_outcome (worded r) (security_out command page.now) }
 {
-    let nexuses = r.device.nexuses;
-    let nexus = device_16::nexus_of(nexuses, command.nexus as usize);
-    let marks = nexus.marks;
+    let nexus = device_16::nexus_of(r.device.nexuses, command.nexus as usize);
     let supported = status_code::is_out_page(command.code);
-    let first = drive_code::check_command(command, marks, NEXUSES, supported);
-    if !answer_code::is_done(first) {
-        return refuse(r, command.nexus, first);
-    }
-    let checked = check_page(r.device, command.nexus, page);
-    let answer = checked.answer;
-    if !answer_code::is_done(answer) {
+    if let Err(answer) = drive_code::check_command(command, nexus.marks, NEXUSES, supported) {
         return refuse(r, command.nexus, answer);
     }
-    let read = checked.page;
-    accept(r, command.nexus, read)
+    match check_page(r.device, command.nexus, page) {
+        Ok(read) => accept(r, command.nexus, read),
+        Err(answer) => refuse(r, command.nexus, answer),
+    }
 }
 
 // SECURITY PROTOCOL OUT.
@@ -229,13 +210,11 @@ pub fn security_out(r: Record, command: Command, page: &[u8]) -> Outcome
 fn refuse_write(r: Record, n: u8, answer: Answer) -> WriteOutcome
     ensures { result ≡ refused_write (worded r) n answer }
 {
-    let refused_call = refuse(r, n, answer);
-    let after = refused_call.after;
-    let sense = refused_call.sense;
+    let refused = refuse(r, n, answer);
     WriteOutcome {
-        after,
+        after: refused.after,
         answer,
-        sense,
+        sense: refused.sense,
         decision: Decision::Refused,
         place: 0,
         index: 0,
@@ -247,21 +226,17 @@ pub fn write_known(r: Record, n: u8, supported: bool) -> WriteOutcome
     ensures { result ≡ known_write_outcome (worded r) n supported }
 {
     let nexus = device_16::nexus_at(r.device, n as usize);
-    let marks = nexus.marks;
-    let heard = drive_code::hear(n, marks, NEXUSES);
-    if !answer_code::is_done(heard) {
-        return refuse_write(r, n, heard);
+    if let Err(answer) = drive_code::hear(n, nexus.marks, NEXUSES) {
+        return refuse_write(r, n, answer);
     }
-    let sets = r.device.sets;
-    let place = device_16::place_of(nexus, n as usize, sets);
-    let set = sets[place];
-    let answer = drive_code::check_write(nexus, set, supported);
-    if !answer_code::is_done(answer) {
+    let place = device_16::place_of(nexus, n as usize, r.device.sets);
+    let set = r.device.sets[place];
+    if let Err(answer) = drive_code::check_write(nexus, set, supported) {
         return refuse_write(r, n, answer);
     }
     WriteOutcome {
         after: r,
-        answer,
+        answer: Answer::Done,
         sense: Sense::NONE,
         decision: drive_code::decide(set.fields.encryption),
         place,
@@ -282,13 +257,11 @@ pub fn write(r: Record, n: u8, supported: bool) -> WriteOutcome
 fn refuse_read(r: Record, n: u8, answer: Answer) -> ReadOutcome
     ensures { result ≡ refused_read (worded r) n answer }
 {
-    let refused_call = refuse(r, n, answer);
-    let after = refused_call.after;
-    let sense = refused_call.sense;
+    let refused = refuse(r, n, answer);
     ReadOutcome {
-        after,
+        after: refused.after,
         answer,
-        sense,
+        sense: refused.sense,
         decision: ReadDecision::Withheld,
         place: 0,
     }
@@ -299,25 +272,19 @@ pub fn read_known(r: Record, n: u8, block: Block) -> ReadOutcome
     ensures { result ≡ known_read_outcome (worded r) n block }
 {
     let nexus = device_16::nexus_at(r.device, n as usize);
-    let marks = nexus.marks;
-    let heard = drive_code::hear(n, marks, NEXUSES);
-    if !answer_code::is_done(heard) {
-        return refuse_read(r, n, heard);
-    }
-    let sets = r.device.sets;
-    let place = device_16::place_of(nexus, n as usize, sets);
-    let ruling = drive_code::restore(sets[place], block);
-    let answer = ruling.answer;
-    if !answer_code::is_done(answer) {
+    if let Err(answer) = drive_code::hear(n, nexus.marks, NEXUSES) {
         return refuse_read(r, n, answer);
     }
-    let decision = ruling.decision;
-    ReadOutcome {
-        after: r,
-        answer,
-        sense: Sense::NONE,
-        decision,
-        place,
+    let place = device_16::place_of(nexus, n as usize, r.device.sets);
+    match drive_code::restore(r.device.sets[place], block) {
+        Ok(decision) => ReadOutcome {
+            after: r,
+            answer: Answer::Done,
+            sense: Sense::NONE,
+            decision,
+            place,
+        },
+        Err(answer) => refuse_read(r, n, answer),
     }
 }
 
@@ -375,14 +342,15 @@ fn release(r: Record, event: Event) -> Record
 pub fn happen_known(r: Record, event: Event) -> Outcome
     ensures { result ≡ known_outcome (worded r) (happens event) }
 {
-    let answer = drive_code::check_event(event, NEXUSES, PLACES);
-    let sets = r.device.sets;
-    if !answer_code::is_done(answer) | places_16::none_due(sets, event) {
+    if let Err(answer) = drive_code::check_event(event, NEXUSES, PLACES) {
         return unchanged(r, answer);
+    }
+    if places_16::none_due(r.device.sets, event) {
+        return unchanged(r, Answer::Done);
     }
     Outcome {
         after: release(r, event),
-        answer,
+        answer: Answer::Done,
         sense: Sense::NONE,
     }
 }
@@ -394,41 +362,29 @@ pub fn happen(r: Record, event: Event) -> Outcome
     if !words_16::formed(r) {
         return unchanged(r, Answer::NotWellFormed);
     }
-    let answer = drive_code::check_event(event, NEXUSES, PLACES);
-    let sets = r.device.sets;
-    if !answer_code::is_done(answer) | places_16::none_due(sets, event) {
+    if let Err(answer) = drive_code::check_event(event, NEXUSES, PLACES) {
         return unchanged(r, answer);
+    }
+    if places_16::none_due(r.device.sets, event) {
+        return unchanged(r, Answer::Done);
     }
     Outcome {
         after: release(r, event),
-        answer,
+        answer: Answer::Done,
         sense: Sense::NONE,
     }
 }
 
-// Which hosts the set in a place serves: its word. The record stays as it is.
-pub fn serves(r: Record, place: u16) -> Served
+// Which hosts the set in a place serves: its word, or the answer that refuses. The record stays as it is.
+pub fn serves(r: Record, place: u16) -> Result<u64, Answer>
     ensures { result ≡ served (worded r) place }
 {
     if !words_16::formed(r) {
-        return Served {
-            answer: Answer::NotWellFormed,
-            sense: Sense::NONE,
-            word: 0,
-        };
+        return Err(Answer::NotWellFormed);
     }
     let at = place as usize;
     if PLACES <= at {
-        return Served {
-            answer: Answer::PlaceAbove,
-            sense: Sense::NONE,
-            word: 0,
-        };
+        return Err(Answer::PlaceAbove);
     }
-    let words = r.words;
-    Served {
-        answer: Answer::Done,
-        sense: Sense::NONE,
-        word: words[at],
-    }
+    Ok(r.words[at])
 }

@@ -2,104 +2,100 @@
 #![tactic(auto)]
 
 ghost use Rattle.std.specs.Prelude.{◌≡◌};
+ghost use Rattle.answer.specs.Answers.{passed};
 ghost use Rattle.drive.specs.Checks.{first_of, check2, check13, heard, commanded, permitted, event_check};
-ghost use Rattle.drive.specs.Restoring.{block_of, passes, stopped, under_disable, under_raw, plain_under, encrypted_under, under_mode, not_known, restored, read_value_of};
+ghost use Rattle.drive.specs.Restoring.{block_of, under_disable, under_raw, plain_under, encrypted_under, under_mode, not_known, restored, read_value_of};
 ghost use Rattle.drive.specs.After.{actor_of};
 ghost use Rattle.drive.specs.Outcomes.{decided, value_of};
 
 use answer::Answer;
 use device::{Marks, Nexus, Set};
 use drive::{
-    Block, Command, Decision, ENCRYPTED_KIND, NO_KEY, OTHER_KIND, PLAIN_KIND, ReadDecision, Ruling,
+    Block, Command, Decision, ENCRYPTED_KIND, NO_KEY, OTHER_KIND, PLAIN_KIND, ReadDecision,
 };
-use marks::Actor;
 use parameters::{DECRYPT, DISABLE, ENCRYPT, EXTERNAL, RAW};
 use places::Event;
 
 const PROTOCOL: u8 = 0x20;
 
 // Check 2, where there are that many nexuses.
-fn check_nexus(n: u8, nexuses: usize) -> Answer
-    ensures { result ≡ check2 nexuses n }
+fn check_nexus(n: u8, nexuses: usize) -> Result<(), Answer>
+    ensures { result ≡ passed (check2 nexuses n) }
 {
     if nexuses <= n as usize {
-        Answer::NexusAbove
-    } else {
-        Answer::Done
+        return Err(Answer::NexusAbove);
     }
+    Ok(())
 }
 
 // Check 13, where there are that many places.
-fn check_place(place: u16, places: usize) -> Answer
-    ensures { result ≡ check13 places place }
+fn check_place(place: u16, places: usize) -> Result<(), Answer>
+    ensures { result ≡ passed (check13 places place) }
 {
     if places <= place as usize {
-        Answer::PlaceAbove
-    } else {
-        Answer::Done
+        return Err(Answer::PlaceAbove);
     }
+    Ok(())
 }
 
 // Checks 2 to 4.
-pub fn hear(n: u8, marks: Marks, nexuses: usize) -> Answer
-    ensures { result ≡ first_of (heard nexuses n marks) }
+pub fn hear(n: u8, marks: Marks, nexuses: usize) -> Result<(), Answer>
+    ensures { result ≡ passed (first_of (heard nexuses n marks)) }
 {
-    if nexuses <= n as usize {
-        return Answer::NexusAbove;
-    }
+    check_nexus(n, nexuses)?;
     if marks.another {
-        return Answer::ChangedByAnotherNexus;
+        return Err(Answer::ChangedByAnotherNexus);
     }
     if marks.vendor {
-        return Answer::ChangedByVendorEvent;
+        return Err(Answer::ChangedByVendorEvent);
     }
-    Answer::Done
+    Ok(())
 }
 
 // Checks 2 to 6, where it is known whether the page is supported.
-pub fn check_command(command: Command, marks: Marks, nexuses: usize, supported: bool) -> Answer
-    ensures { result ≡ first_of (commanded nexuses command marks supported) }
+pub fn check_command(
+    command: Command,
+    marks: Marks,
+    nexuses: usize,
+    supported: bool,
+) -> Result<(), Answer>
+    ensures { result ≡ passed (first_of (commanded nexuses command marks supported)) }
 {
-    let heard = hear(command.nexus, marks, nexuses);
-    if !answer_code::is_done(heard) {
-        return heard;
-    }
+    hear(command.nexus, marks, nexuses)?;
     if command.protocol != PROTOCOL {
-        return Answer::ProtocolNotSupported;
+        return Err(Answer::ProtocolNotSupported);
     }
     if !supported {
-        return Answer::PageNotSupported;
+        return Err(Answer::PageNotSupported);
     }
-    Answer::Done
+    Ok(())
 }
 
 // Checks 11 and 12, of a nexus and the set that it uses.
-pub fn check_write(nexus: Nexus, set: Set, supported: bool) -> Answer
-    ensures { result ≡ first_of (permitted nexus set supported) }
+pub fn check_write(nexus: Nexus, set: Set, supported: bool) -> Result<(), Answer>
+    ensures { result ≡ passed (first_of (permitted nexus set supported)) }
 {
-    if nexus.lock & (nexus.saved != set.number) {
-        return Answer::KeyInstanceChanged;
+    if nexus.lock && nexus.saved != set.number {
+        return Err(Answer::KeyInstanceChanged);
     }
-    if (set.fields.encryption == ENCRYPT) & !supported {
-        return Answer::ParametersNotUsable;
+    if set.fields.encryption == ENCRYPT && !supported {
+        return Err(Answer::ParametersNotUsable);
     }
-    Answer::Done
+    Ok(())
 }
 
 // Clear, external or encrypted, by mode.
 pub fn decide(mode: u8) -> Decision
     ensures { result ≡ decided mode }
 {
-    if mode == DISABLE {
-        return Decision::Clear;
+    match mode {
+        DISABLE => Decision::Clear,
+        EXTERNAL => Decision::External,
+        _ => Decision::Encrypted,
     }
-    if mode == EXTERNAL {
-        return Decision::External;
-    }
-    Decision::Encrypted
 }
 
-// The write decision's value in a reply.
+// The write decision's value in a reply. Theorems name this function's definition and that of the read's: a From would say them again.
 pub fn value_of(decision: Decision) -> u8
     ensures { result ≡ value_of decision }
 {
@@ -121,83 +117,63 @@ pub fn block_of(argument: u16) -> Block
     }
 }
 
-// A read that passes.
-fn pass(decision: ReadDecision) -> Ruling
-    ensures { result ≡ passes decision }
-{
-    Ruling {
-        answer: Answer::Done,
-        decision,
-    }
-}
-
-// A read that is stopped.
-fn stop(answer: Answer) -> Ruling
-    ensures { result ≡ stopped answer }
-{
-    Ruling {
-        answer,
-        decision: ReadDecision::Withheld,
-    }
-}
-
 // "Under DISABLE plain passes and others get 15 (7/74/01)."
-fn under_disable(kind: u8) -> Ruling
+fn under_disable(kind: u8) -> Result<ReadDecision, Answer>
     ensures { result ≡ under_disable kind }
 {
     if kind == PLAIN_KIND {
-        return pass(ReadDecision::Plain);
+        Ok(ReadDecision::Plain)
+    } else {
+        Err(Answer::UnableToDecrypt)
     }
-    stop(Answer::UnableToDecrypt)
 }
 
 // "RAW passes all, kinds 1 and 2 as raw."
-fn under_raw(kind: u8) -> Ruling
+fn under_raw(kind: u8) -> Result<ReadDecision, Answer>
     ensures { result ≡ under_raw kind }
 {
     if kind == PLAIN_KIND {
-        return pass(ReadDecision::Plain);
+        Ok(ReadDecision::Plain)
+    } else {
+        Ok(ReadDecision::Raw)
     }
-    pass(ReadDecision::Raw)
 }
 
 // "DECRYPT gives 16 (7/74/02) for plain; MIXED passes it."
-fn plain_under(mode: u8) -> Ruling
+fn plain_under(mode: u8) -> Result<ReadDecision, Answer>
     ensures { result ≡ plain_under mode }
 {
     if mode == DECRYPT {
-        return stop(Answer::NotEncrypted);
+        Err(Answer::NotEncrypted)
+    } else {
+        Ok(ReadDecision::Plain)
     }
-    pass(ReadDecision::Plain)
 }
 
 // "In both, kind 1 is decrypted if a key opened it, else 17 (7/74/03); kind 2 gives 15."
-fn encrypted_under(block: Block) -> Ruling
+fn encrypted_under(block: Block) -> Result<ReadDecision, Answer>
     ensures { result ≡ encrypted_under block }
 {
     if block.kind != ENCRYPTED_KIND {
-        return stop(Answer::UnableToDecrypt);
+        return Err(Answer::UnableToDecrypt);
     }
     if block.key == NO_KEY {
-        return stop(Answer::KeyIncorrect);
+        return Err(Answer::KeyIncorrect);
     }
-    pass(ReadDecision::Decrypted)
+    Ok(ReadDecision::Decrypted)
 }
 
 // A block read, by decryption mode.
-fn under_mode(mode: u8, block: Block) -> Ruling
+#[tactic(auto, unfolding(drive::specs::Restoring::under_mode))]
+fn under_mode(mode: u8, block: Block) -> Result<ReadDecision, Answer>
     ensures { result ≡ under_mode mode block }
 {
-    if mode == DISABLE {
-        return under_disable(block.kind);
+    match mode {
+        DISABLE => under_disable(block.kind),
+        RAW => under_raw(block.kind),
+        _ if block.kind == PLAIN_KIND => plain_under(mode),
+        _ => encrypted_under(block),
     }
-    if mode == RAW {
-        return under_raw(block.kind);
-    }
-    if block.kind == PLAIN_KIND {
-        return plain_under(mode);
-    }
-    encrypted_under(block)
 }
 
 // Check 14: a kind above 2, or a key that is neither none nor the set's.
@@ -205,16 +181,16 @@ fn not_known(set: Set, block: Block) -> bool
     ensures { result ≡ not_known set block }
 {
     let holds = parameters_code::needs_key(set.fields.encryption, set.fields.decryption);
-    let has = holds & (block.key <= set.supplemental.count);
-    !(block.kind <= OTHER_KIND) | !((block.key == NO_KEY) | has)
+    let has = holds && block.key <= set.supplemental.count;
+    block.kind > OTHER_KIND || !(block.key == NO_KEY || has)
 }
 
 // Checks 14 to 17, of a block read under a set, and what becomes of it.
-pub fn restore(set: Set, block: Block) -> Ruling
+pub fn restore(set: Set, block: Block) -> Result<ReadDecision, Answer>
     ensures { result ≡ restored set block }
 {
     if not_known(set, block) {
-        return stop(Answer::BlockNotKnown);
+        return Err(Answer::BlockNotKnown);
     }
     under_mode(set.fields.decryption, block)
 }
@@ -232,29 +208,22 @@ pub fn read_value_of(decision: ReadDecision) -> u8
 }
 
 // The check of an event's argument, where there are that many nexuses and places.
-pub fn check_event(event: Event, nexuses: usize, places: usize) -> Answer
-    ensures { result ≡ event_check nexuses places event }
+pub fn check_event(event: Event, nexuses: usize, places: usize) -> Result<(), Answer>
+    ensures { result ≡ passed (event_check nexuses places event) }
 {
     match event {
-        Event::Demount => Answer::Done,
-        Event::NexusLoss(n) => check_nexus(n, nexuses),
-        Event::DeviceLoss => Answer::Done,
-        Event::Preempt(n) => check_nexus(n, nexuses),
-        Event::Microcode => Answer::Done,
+        Event::NexusLoss(n) | Event::Preempt(n) => check_nexus(n, nexuses),
         Event::VendorRelease(place) => check_place(place, places),
+        Event::Demount | Event::DeviceLoss | Event::Microcode => Ok(()),
     }
 }
 
 // Who acts in an event.
-pub fn actor_of(event: Event) -> Actor
+pub fn actor_of(event: Event) -> Option<u8>
     ensures { result ≡ actor_of event }
 {
     match event {
-        Event::Demount => Actor::Nobody,
-        Event::NexusLoss(_) => Actor::Nobody,
-        Event::DeviceLoss => Actor::Nobody,
-        Event::Preempt(n) => Actor::Acting(n),
-        Event::Microcode => Actor::Nobody,
-        Event::VendorRelease(_) => Actor::Nobody,
+        Event::Preempt(n) => Some(n),
+        _ => None,
     }
 }

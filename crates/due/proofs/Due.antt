@@ -25,7 +25,7 @@ use Rattle.drive.specs.declared.Decision.{Decision}
 use Rattle.drive.specs.declared.Decision.TheVariants.{Refused, Clear, External, Encrypted}
 use Rattle.drive.specs.Calls.{Call, power_up, security_in, security_out, write, read, unit_reset, happens, sender_of}
 use Rattle.drive.specs.Checks.{first_of, check1, check5, check6, check10, page_checked, heard_of, commanded_of, permitted, checks, answer, instance_changed, not_usable}
-use Rattle.drive.specs.Restoring.{restored}
+use Rattle.drive.specs.Restoring.{ruled_answer, restored}
 use Rattle.drive.specs.Outcomes.{decided, value_of, decision}
 use Rattle.due.specs.Due.{SentDue, CommandDue, InDue, Held, mode_of, WriteDue, Passes, becomes, Becomes}
 use Rattle.drive.proofs.Checks.{all_done, passed}
@@ -54,7 +54,7 @@ sent-due s power_up n e = clash e refl
 sent-due s (security_in command) n e = by-sender s command.nexus n e (check5 command.protocol ∷ check6 (is_in_page command.code) ∷ []) refl
 sent-due s (security_out command page) n e = by-sender s command.nexus n e (check5 command.protocol ∷ check6 (is_out_page command.code) ∷ page-checks s command page) refl
 sent-due s (write m supported) n e = by-sender s m n e (permitted (nexus_at s m) (selected_set s m) supported) refl
-sent-due s (read m block) n e = by-sender s m n e ((restored (selected_set s m) block).answer ∷ []) refl
+sent-due s (read m block) n e = by-sender s m n e (ruled_answer (restored (selected_set s m) block) ∷ []) refl
 sent-due s unit_reset n e = clash e refl
 sent-due s (happens event) n e = clash e refl
 

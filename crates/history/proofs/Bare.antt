@@ -1,5 +1,6 @@
 -- The record with its numbers left out goes its way by itself.
 -- Assumes nothing.
+use Rattle.std.specs.Prelude.{ℕ, Option, Some}
 use Prim.Native.Nat.{ℕ}
 use mathlib.Core.Bool.{false, not, ◌||◌}
 use mathlib.Core.List.{map, map-map, map-id}
@@ -14,8 +15,6 @@ use Rattle.device.specs.WellFormed.{set_good, well_formed}
 use Rattle.device.specs.declared.Set.{Set}
 use Rattle.device.specs.declared.Nexus.{Nexus}
 use Rattle.marks.specs.Marks.{flagged}
-use Rattle.marks.specs.declared.Actor.{Actor}
-use Rattle.marks.specs.declared.Actor.TheVariants.{Acting}
 use Rattle.places.specs.Actions.{acts, appended}
 use Rattle.drive.specs.Calls.{Call}
 use Rattle.drive.specs.Effects.{Effect, nothing, marks, takes, clears, releasing, restarts, effect}
@@ -126,7 +125,7 @@ same-but-numbers s t e call =
 -- ---- who is told
 
 -- where no number is above the counter and none of the draws wraps, "its number differs" is "a call acted on it"
-telling-same : (s : State) (e : Effect) (actor : Actor) → is_restart e ≡ false → Low s (length (actions_of s e))
+telling-same : (s : State) (e : Effect) (actor : Option ℕ) → is_restart e ≡ false → Low s (length (actions_of s e))
     → flagged (by_number (actions_of s e) s (changed_by s e)) actor s (changed_by s e) ≡ flagged (by_action (actions_of s e) s (changed_by s e)) actor s (changed_by s e)
 telling-same s e actor f w =
     let number : (place : ℕ) → place_number (changed_by s e) place ≡ place_number (acts s (actions_of s e)) place =
@@ -138,7 +137,7 @@ pub told-by-action : (s : State) (e : Effect) → Low s (length (actions_of s e)
 unfolding carried_out
 told-by-action s nothing w = refl
 told-by-action s (marks n change) w = refl
-told-by-action s (takes n page) w = telling-same s (takes n page) (Acting n) refl w
+told-by-action s (takes n page) w = telling-same s (takes n page) (Some n) refl w
 told-by-action s clears w = refl
 told-by-action s (releasing event) w = telling-same s (releasing event) (actor_of event) refl w
 told-by-action s restarts w = refl

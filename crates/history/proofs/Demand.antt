@@ -1,5 +1,6 @@
 -- Demand 3, for any number of nexuses and places and every history that draws less than 2 ^ 32 numbers since its latest power-on.
 -- Assumes nothing.
+use Rattle.std.specs.Prelude.{Some, None}
 use Prim.Native.Nat.{ℕ, suc, ◌+◌, ◌<◌, ◌^◌}
 use mathlib.Core.Bool.{Bool, true, not}
 use mathlib.Core.List.{List, ◌∷◌, ◌++◌, append_assoc}
@@ -9,7 +10,6 @@ use lib.ListN.{length}
 use Rattle.arrays.proofs.Base.{clash}
 use Rattle.device.specs.Record.{State, power_on, set_at, nexus_at, used}
 use Rattle.device.specs.Selecting.{selected}
-use Rattle.device.specs.declared.Found.TheVariants.{At, Nowhere}
 use Rattle.drive.specs.Calls.{Call}
 use Rattle.drive.specs.After.{after}
 use Rattle.drive.specs.Runs.{run_from, run}
@@ -133,13 +133,13 @@ pub first-touch : (nexuses places : ℕ) → 0 < places → (calls : List Call) 
     → (x : Latest n (reading nexuses places calls))
     × ((trail nexuses places n calls).left ≡ place_left x)
     × (is_stopped (run nexuses places calls) n supported ≡ is_found (trail nexuses places n calls).first)
-    × ((position : ℕ) → (trail nexuses places n calls).first ≡ At position → (k : ℕ) × (position ≡ suc (length x.before) + k) × First (place_left x) x.later k)
+    × ((position : ℕ) → (trail nexuses places n calls).first ≡ Some position → (k : ℕ) × (position ≡ suc (length x.before) + k) × First (place_left x) x.later k)
 unfolding trail
 first-touch nexuses places some calls fits n known supported heard locked =
     let r = demand3 nexuses places some calls fits n known supported heard locked in
     let x : Latest n (reading nexuses places calls) = r.0 in
     let i : ℕ = suc (length x.before) in
-    let t = trail-latest n (reading nexuses places calls) x (record { left = 0; first = Nowhere }) in (
+    let t = trail-latest n (reading nexuses places calls) x (record { left = 0; first = None }) in (
       x,
       ap (λ (y : Trail). y.left) t,
       r.1 ∙ sym (found-touched (place_left x) i x.later) ∙ ap (λ (y : Trail). is_found y.first) (sym t),

@@ -1,5 +1,6 @@
 -- A call acts on few places, so few numbers are drawn.
 -- Assumes nothing.
+use Rattle.std.specs.Prelude.{ℕ, Option, Some, None}
 use Prim.Native.Nat.{ℕ, suc, ◌+◌, ◌*◌, ◌≤◌}
 use mathlib.Core.Path.{◌≡◌, ◌∙◌}
 use mathlib.Core.Bool.{Bool}
@@ -15,8 +16,6 @@ use Rattle.parameters.specs.declared.Fields.{Fields}
 use Rattle.page.specs.declared.Page.{Page}
 use Rattle.device.specs.Record.{State, power_on}
 use Rattle.device.specs.declared.Set.{Set}
-use Rattle.device.specs.declared.Found.{Found}
-use Rattle.device.specs.declared.Found.TheVariants.{At, Nowhere}
 use Rattle.places.specs.Actions.{Action, release, due, releases, release_found, release_own, own_place, room, establish, establish_in, page_actions, released_by}
 use Rattle.places.specs.declared.Room.{Room}
 use Rattle.places.specs.declared.Room.TheVariants.{Free, Evicting, NoRoom}
@@ -34,9 +33,9 @@ releases-few picked k (x ∷ sets) =
     let h = releases-few picked (suc k) sets in
     if-elim (λ (l : List Action). length l ≤ suc (length sets)) (due picked k x) (λ e. omega (arith, h)) (λ e. omega (arith, h))
 
-found-few : (f : Found) → length (release_found f) ≤ 1
-found-few (At place) = omega arith
-found-few Nowhere = omega arith
+found-few : (f : Option ℕ) → length (release_found f) ≤ 1
+found-few (Some place) = omega arith
+found-few None = omega arith
 
 room-few : (r : Room) (n : ℕ) (fields : Fields) → length (establish_in r n fields) ≤ 2
 room-few (Free place) n fields = omega arith

@@ -1,5 +1,6 @@
 -- What holds of a nexus after its own page, and stays under every other effect.
 -- Assumes nothing.
+use Rattle.std.specs.Prelude.{Some, None}
 use Prim.Native.Nat.{ℕ, zero, suc, ◌<◌}
 use mathlib.Core.Bool.{true, false}
 use mathlib.Core.Path.{◌≡◌, refl, sym, ◌∙◌, ap, subst}
@@ -18,7 +19,6 @@ use Rattle.device.specs.Record.{State, power_on, set_at, nexus_at, no_set, new_n
 use Rattle.device.specs.Updates.{with_scope, at_nexus}
 use Rattle.device.specs.Selecting.{owns, owned_place, or_else, selected, selected_set}
 use Rattle.device.specs.declared.Nexus.{Nexus}
-use Rattle.device.specs.declared.Found.TheVariants.{At, Nowhere}
 use Rattle.device.proofs.Selecting.{selected-within}
 use Rattle.marks.specs.Marks.{changes}
 use Rattle.places.specs.Actions.{acts, page_actions, nexus_after, sender_after, taken}
@@ -50,7 +50,7 @@ selected-used : (s : State) (n : ℕ) → (selected s n ≡ 0 → ⊥) → (set_
 unfolding selected owned_place
 selected-used s n =
     if-elim (λ p. (p ≡ 0 → ⊥) → (set_at s p).scope ≡ local_scope) (eqb (nexus_at s n).scope local_scope)
-    (λ e. find-by At Nowhere (λ place. owns n) no_set (λ f. (or_else f 0 ≡ 0 → ⊥) → (set_at s (or_else f 0)).scope ≡ local_scope) s.sets
+    (λ e. find-by Some None (λ place. owns n) no_set (λ f. (or_else f 0 ≡ 0 → ⊥) → (set_at s (or_else f 0)).scope ≡ local_scope) s.sets
     (λ k l t ne. eqb-true _ _ (and_left _ _ t))
     (λ ne. absurd (ne refl)))
     (λ e ne. absurd (ne refl))

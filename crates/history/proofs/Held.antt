@@ -1,5 +1,6 @@
 -- A locked nexus, the place that its latest page left it using, and whether a later call acted on that place: how its numbers tell.
 -- Assumes nothing.
+use Rattle.std.specs.Prelude.{ℕ, Option, Some, None}
 use Prim.Native.Nat.{ℕ, ◌≤◌, ◌<◌}
 use mathlib.Core.Bool.{Bool, true, false, not, ◌&&◌, ◌||◌, or_assoc, or-false}
 use mathlib.Core.List.{List, [], ◌∷◌, map}
@@ -15,8 +16,6 @@ use Rattle.device.specs.Record.{State, nexus_at, new_nexus}
 use Rattle.device.specs.Updates.{with_scope, numbered}
 use Rattle.device.specs.Selecting.{owns, owned_place, or_else, selected}
 use Rattle.device.specs.declared.Nexus.{Nexus}
-use Rattle.device.specs.declared.Found.{Found}
-use Rattle.device.specs.declared.Found.TheVariants.{At, Nowhere}
 use Rattle.device.proofs.Selecting.{selected-shared, selected-own}
 use Rattle.places.specs.Actions.{Action, drawn, freed, act, acts}
 use Rattle.places.proofs.Lengths.{act-size}
@@ -87,9 +86,9 @@ module _ {B : Type 0} (r : Nexus → B) (e : (x : Nexus) → r (with_scope publi
 
 module _ (n : ℕ) (s : State) (a : Action) where
   -- a place that a nexus did not use leaves it its place
-  owned-stays : owns n a.contents ≡ false → (owned_place s.sets n ≡ At a.place → ⊥) → owned_place (act s a).sets n ≡ owned_place s.sets n
+  owned-stays : owns n a.contents ≡ false → (owned_place s.sets n ≡ Some a.place → ⊥) → owned_place (act s a).sets n ≡ owned_place s.sets n
   unfolding act owned_place
-  owned-stays o ne = find-set At Nowhere (owns n) s.sets a.place (numbered (drawn s.counter) a.contents) o ne
+  owned-stays o ne = find-set Some None (owns n) s.sets a.place (numbered (drawn s.counter) a.contents) o ne
 
   -- the nexus falls to place 0 with its place
   fell : eqb (selected s n) a.place ≡ true → selected (act s a) n ≡ 0
@@ -102,8 +101,8 @@ module _ (n : ℕ) (s : State) (a : Action) where
       cases (eqb (nexus_at s n).scope local_scope)
       (λ l.
       let local : (nexus_at s n).scope ≡ local_scope = eqb-true _ _ l in
-      let off : owned_place s.sets n ≡ At a.place → ⊥ = λ x. eqb-false _ _ t (selected-own s n local ∙ ap (λ (f : Found). or_else f 0) x) in
-      selected-own (act s a) n (scope ∙ local) ∙ ap (λ (f : Found). or_else f 0) (owned-stays o off) ∙ sym (selected-own s n local))
+      let off : owned_place s.sets n ≡ Some a.place → ⊥ = λ x. eqb-false _ _ t (selected-own s n local ∙ ap (λ (f : Option ℕ). or_else f 0) x) in
+      selected-own (act s a) n (scope ∙ local) ∙ ap (λ (f : Option ℕ). or_else f 0) (owned-stays o off) ∙ sym (selected-own s n local))
       (λ l. selected-shared (act s a) n (ap (λ k. eqb k local_scope) scope ∙ l) ∙ sym (selected-shared s n l))
 
 -- ---- an action that brings no LOCAL set of the nexus's, while it is locked

@@ -1,5 +1,6 @@
 -- What an effect leaves of the sets and the counter: what its actions leave.
 -- Assumes nothing.
+use Rattle.std.specs.Prelude.{ℕ, Option}
 use Prim.Native.Nat.{ℕ}
 use mathlib.Core.Bool.{Bool, false}
 use mathlib.Core.List.{map}
@@ -14,7 +15,6 @@ use Rattle.parameters.specs.declared.Supplemental.{Supplemental}
 use Rattle.device.specs.declared.Set.{Set}
 use Rattle.marks.specs.Marks.{changes, flagged}
 use Rattle.marks.specs.Reset.{cleared}
-use Rattle.marks.specs.declared.Actor.{Actor}
 use Rattle.places.specs.Actions.{acts, page_actions, sender_after, appended, supplemented, taken}
 use Rattle.places.proofs.Sender.{supplemental-actions, taken-supplemental, taken-whole}
 use Rattle.drive.specs.Effects.{Effect, nothing, marks, takes, clears, releasing, restarts}
@@ -72,7 +72,7 @@ changed-counter s (releasing event) f = refl
 changed-counter s restarts f = clash refl f
 
 -- to tell nexuses changes nothing that a flag does not
-pub told_same : {B : Type 0} (r : State → B) → ((differ : ℕ → Bool) (actor : Actor) (s t : State) → r (flagged differ actor s t) ≡ r t) → (rule : Telling) (s : State) (x : Effect) → r (carried_out rule s x) ≡ r (changed_by s x)
+pub told_same : {B : Type 0} (r : State → B) → ((differ : ℕ → Bool) (actor : Option ℕ) (s t : State) → r (flagged differ actor s t) ≡ r t) → (rule : Telling) (s : State) (x : Effect) → r (carried_out rule s x) ≡ r (changed_by s x)
 unfolding carried_out
 told_same r e rule s nothing = refl
 told_same r e rule s (marks n change) = refl

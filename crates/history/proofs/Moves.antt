@@ -1,5 +1,6 @@
 -- Two records that maps make the same stay so under every effect, where the maps keep what the rules read and nobody is told otherwise.
 -- Assumes nothing.
+use Rattle.std.specs.Prelude.{ℕ, Option, Some}
 use Prim.Native.Nat.{ℕ}
 use mathlib.Core.Bool.{Bool, true, false, not, ◌&&◌}
 use mathlib.Core.List.{List, [], ◌∷◌, map}
@@ -23,8 +24,6 @@ use Rattle.device.specs.declared.Marks.{Marks}
 use Rattle.device.specs.declared.Nexus.{Nexus}
 use Rattle.marks.specs.Marks.{remarked, changed, changes, told, alerted, is_actor, flagged}
 use Rattle.marks.specs.Reset.{unmarked, cleared}
-use Rattle.marks.specs.declared.Actor.{Actor}
-use Rattle.marks.specs.declared.Actor.TheVariants.{Acting}
 use Rattle.places.specs.Actions.{Action, drawn, freed, act, acts, releases, released_by, page_actions, nexus_after, sender_after, appended, supplemented, taken}
 use Rattle.drive.specs.Calls.{Call}
 use Rattle.drive.specs.Effects.{Effect, nothing, marks, takes, clears, releasing, restarts, effect}
@@ -173,7 +172,7 @@ module _ (c : ℕ → ℕ) (f : Set → Set) (g : Nexus → Nexus) (k : Keeps f 
       if-alike page.supplemental _ _ _ _ (supplemented-alike n page s t a) (sender-alike n page _ _ done)
 
   -- the flags, where they tell the same
-  flagged_alike : (p q : ℕ → Bool) (actor : Actor) (s u t v : State) → ((n : ℕ) → p n ≡ q n) → Alike s t → Alike u v → Alike (flagged p actor s u) (flagged q actor t v)
+  flagged_alike : (p q : ℕ → Bool) (actor : Option ℕ) (s u t v : State) → ((n : ℕ) → p n ≡ q n) → Alike s t → Alike u v → Alike (flagged p actor s u) (flagged q actor t v)
   unfolding flagged
   flagged_alike p q actor s u t v d a b = record {
     counter = b.counter;
@@ -228,7 +227,7 @@ module _ (c : ℕ → ℕ) (f : Set → Set) (g : Nexus → Nexus) (k : Keeps f 
 
   module _ (rule : Telling) (fair : Fair rule) where
     -- an effect that tells nexuses
-    telling-alike : (e : Effect) (actor : Actor) (s t : State) → Alike s t
+    telling-alike : (e : Effect) (actor : Option ℕ) (s t : State) → Alike s t
         → Alike (flagged (rule (actions_of s e) s (changed_by s e)) actor s (changed_by s e)) (flagged (rule (actions_of t e) t (changed_by t e)) actor t (changed_by t e))
     telling-alike e actor s t a =
         let b = changed-alike e s t a in
@@ -240,7 +239,7 @@ module _ (c : ℕ → ℕ) (f : Set → Set) (g : Nexus → Nexus) (k : Keeps f 
     unfolding carried_out
     effect-alike nothing s t a = changed-alike nothing s t a
     effect-alike (marks n change) s t a = changed-alike (marks n change) s t a
-    effect-alike (takes n page) s t a = telling-alike (takes n page) (Acting n) s t a
+    effect-alike (takes n page) s t a = telling-alike (takes n page) (Some n) s t a
     effect-alike clears s t a = changed-alike clears s t a
     effect-alike (releasing event) s t a = telling-alike (releasing event) (actor_of event) s t a
     effect-alike restarts s t a = changed-alike restarts s t a

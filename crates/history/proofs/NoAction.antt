@@ -1,5 +1,6 @@
 -- Effects that are no action on a place.
 -- Assumes nothing.
+use Rattle.std.specs.Prelude.{ℕ, Option, Some, None}
 use Prim.Native.Nat.{ℕ, suc, ◌+◌}
 use mathlib.Core.Bool.{Bool, true, false, not, ◌&&◌, ◌||◌}
 use mathlib.Core.List.{List, [], ◌∷◌, ◌++◌}
@@ -19,8 +20,6 @@ use Rattle.parameters.specs.Codes.{local_scope, all_scope}
 use Rattle.device.specs.Record.{State, set_at, nexus_at, no_set, empty, used}
 use Rattle.device.specs.Selecting.{owns, owned_place}
 use Rattle.device.specs.declared.Set.{Set}
-use Rattle.device.specs.declared.Found.{Found}
-use Rattle.device.specs.declared.Found.TheVariants.{At, Nowhere}
 use Rattle.places.specs.Actions.{release, establish, releases, own_place, release_found, release_own, empty_local, unlocked_local, free_at, evicting_at, room, establish_in, page_actions, released_by}
 use Rattle.places.specs.declared.Event.{Event}
 use Rattle.drive.specs.Effects.{Effect, nothing, marks, takes, clears, releasing, restarts}
@@ -64,19 +63,19 @@ empty-release-no-action s event place e = empty-missed (released_by event) place
 -- ---- place 0 while it is empty
 
 -- a place found that isn't place 0
-abbrev Later : Found → Type 0
+abbrev Later : Option ℕ → Type 0
 Later f = hits 0 (release_found f) ≡ false
 
 -- any other place is one
-later-at : (k : ℕ) → (k ≡ 0 → ⊥) → Later (At k)
+later-at : (k : ℕ) → (k ≡ 0 → ⊥) → Later (Some k)
 unfolding hits
 later-at k ne = ap (λ b. b || false) (ne_eqb 0 k (λ e. ne (sym e)))
 
 -- a search whose test place 0 does not pass finds one
-find-later : (p : ℕ → Set → Bool) (l : List Set) → (p 0 (get_or l 0 no_set) ≡ false) → Later (find At Nowhere p l)
+find-later : (p : ℕ → Set → Bool) (l : List Set) → (p 0 (get_or l 0 no_set) ≡ false) → Later (find Some None p l)
 unfolding hits
 find-later p l e =
-    find-by At Nowhere p no_set Later l
+    find-by Some None p no_set Later l
     (λ k h t. later-at k (λ z. clash t (ap (λ j. p j (get_or l j no_set)) z ∙ e)))
     refl
 
@@ -89,18 +88,18 @@ own-later s n e =
     (λ t. refl)
 
 -- a LOCAL page takes one of three that are found
-rooms : (own free lent : Found) (n : ℕ) (fields : Fields) → Later own → Later free → Later lent → hits 0 (establish_in (free_at own (free_at free (evicting_at lent))) n fields) ≡ false
+rooms : (own free lent : Option ℕ) (n : ℕ) (fields : Fields) → Later own → Later free → Later lent → hits 0 (establish_in (free_at own (free_at free (evicting_at lent))) n fields) ≡ false
 unfolding hits
-rooms (At k) free lent n fields a b c = a
-rooms Nowhere (At k) lent n fields a b c = b
-rooms Nowhere Nowhere (At k) n fields a b c = ap₂ ◌||◌ (or_left_false (eqb 0 k) false c) c
-rooms Nowhere Nowhere Nowhere n fields a b c = refl
+rooms (Some k) free lent n fields a b c = a
+rooms None (Some k) lent n fields a b c = b
+rooms None None (Some k) n fields a b c = ap₂ ◌||◌ (or_left_false (eqb 0 k) false c) c
+rooms None None None n fields a b c = refl
 
 -- so it does not take place 0
 room-later : (s : State) (n : ℕ) (fields : Fields) → empty (set_at s 0) ≡ true → hits 0 (establish_in (room s n) n fields) ≡ false
 unfolding room
 room-later s n fields e =
-    rooms (own_place s n) (find At Nowhere empty_local s.sets) (find At Nowhere (unlocked_local s) s.sets) n fields
+    rooms (own_place s n) (find Some None empty_local s.sets) (find Some None (unlocked_local s) s.sets) n fields
     (own-later s n e) (find-later empty_local s.sets refl) (find-later (unlocked_local s) s.sets refl)
 
 -- a page that acts on it is of scope ALL and isn't supplemental

@@ -1,5 +1,6 @@
 -- Effects that are no page of a nexus: but for their actions they change nothing that the nexus sees.
 -- Assumes nothing.
+use Rattle.std.specs.Prelude.{ℕ, Option, Some, None}
 use Prim.Native.Nat.{ℕ}
 use mathlib.Core.Bool.{Bool, false, not, ◌&&◌, and-true}
 use mathlib.Core.List.{List, [], ◌∷◌, ◌++◌, map}
@@ -20,11 +21,8 @@ use Rattle.device.specs.Record.{State, nexus_at, no_set, new_nexus}
 use Rattle.device.specs.Updates.{with_nexuses}
 use Rattle.device.specs.Selecting.{owns, owned_place, or_else, selected}
 use Rattle.device.specs.declared.Nexus.{Nexus}
-use Rattle.device.specs.declared.Found.{Found}
-use Rattle.device.specs.declared.Found.TheVariants.{At, Nowhere}
 use Rattle.marks.specs.Marks.{remarked, changed, changes, told, alerted, flagged}
 use Rattle.marks.specs.Reset.{unmarked, cleared}
-use Rattle.marks.specs.declared.Actor.{Actor}
 use Rattle.places.specs.Actions.{Action, acts, own_place, release_found, release_own, room, establish_in, page_actions, sender_after, supplemented, taken, released_by}
 use Rattle.places.specs.declared.Room.{Room}
 use Rattle.places.specs.declared.Room.TheVariants.{Free, Evicting, NoRoom}
@@ -72,7 +70,7 @@ unfolding changes
 changes-unseen n m change s = nexuses-unseen n s _ (map-set_same part s.nexuses m (remarked (changed change) (nexus_at s m)) new_nexus refl)
 
 -- nor a flag
-pub flagged-unseen : (n : ℕ) (differ : ℕ → Bool) (actor : Actor) (s t : State) → Unseen n t (flagged differ actor s t)
+pub flagged-unseen : (n : ℕ) (differ : ℕ → Bool) (actor : Option ℕ) (s t : State) → Unseen n t (flagged differ actor s t)
 unfolding flagged
 flagged-unseen n differ actor s t =
     nexuses-unseen n t _ (read-map_from part (λ i. remarked (alerted actor (told differ s actor i))) (λ i x. refl) 0 t.nexuses)
@@ -89,7 +87,7 @@ supplemented-unseen n m page s =
     let number : (place : ℕ) → place_number (supplemented s m page) place ≡ place_number s place =
     read_same (λ x. x.number) (supplemented s m page).sets s.sets no_set (supplemented-same (λ x. x.number) (λ k x. refl) s m page) in
     let size = same_length (λ x. x.scope) (supplemented s m page).sets s.sets (supplemented-same (λ x. x.scope) (λ k x. refl) s m page) in
-    let own : owned_place (supplemented s m page).sets n ≡ owned_place s.sets n = find-same At Nowhere (owns n) (supplemented s m page).sets s.sets (supplemented-same (owns n) (λ k x. refl) s m page) in
+    let own : owned_place (supplemented s m page).sets n ≡ owned_place s.sets n = find-same Some None (owns n) (supplemented s m page).sets s.sets (supplemented-same (owns n) (λ k x. refl) s m page) in
     λ i. record {
       counter = s.counter;
       places = size i;
@@ -144,9 +142,9 @@ foreign-append n [] b f g = g
 foreign-append n (x ∷ a) b f g = (f.0, foreign-append n a b f.1 g)
 
 -- a release brings none
-foreign-found : (n : ℕ) (r : Found) → Foreign n (release_found r)
-foreign-found n (At place) = (refl, tt)
-foreign-found n Nowhere = tt
+foreign-found : (n : ℕ) (r : Option ℕ) → Foreign n (release_found r)
+foreign-found n (Some place) = (refl, tt)
+foreign-found n None = tt
 
 -- another's LOCAL page
 foreign-room : (n m : ℕ) (r : Room) (fields : Fields) → eqb m n ≡ false → Foreign n (establish_in r m fields)

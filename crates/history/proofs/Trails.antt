@@ -1,5 +1,6 @@
 -- The reading of a whole history, by the parts of the history before and after the nexus's latest page.
 -- Assumes nothing.
+use Rattle.std.specs.Prelude.{ℕ, Option, Some, None}
 use Prim.Native.Nat.{ℕ, suc, ◌+◌}
 use mathlib.Core.Bool.{Bool, true, false, not, ◌||◌}
 use mathlib.Core.List.{List, [], ◌∷◌, ◌++◌}
@@ -10,8 +11,6 @@ use lib.ListN.{length}
 use borrow.Author.Tests.{not-true}
 use Rattle.arrays.specs.Base.{when◌then◌else◌}
 use Rattle.arrays.proofs.Base.{cases, clash, and_left, and_right, if-true, if-false}
-use Rattle.device.specs.declared.Found.{Found}
-use Rattle.device.specs.declared.Found.TheVariants.{At, Nowhere}
 use Rattle.drive.specs.Calls.{Call}
 use Rattle.device.specs.Record.{State}
 use Rattle.drive.specs.After.{after}
@@ -93,15 +92,15 @@ trail-append n [] b i t = rw add-zero refl
 trail-append n (d ∷ a) b i t = rw (add-suc i (length a), ← suc-add i (length a)) (trail-append n a b (suc i) (followed n i d t))
 
 -- the first of three
-earlier-if : (f : Found) (b : Bool) (i : ℕ) (r : Found) → earlier (earlier f (when b then At i else Nowhere)) r ≡ earlier f (when b then At i else r)
-earlier-if (At j) b i r = refl
-earlier-if Nowhere true i r = refl
-earlier-if Nowhere false i r = refl
+earlier-if : (f : Option ℕ) (b : Bool) (i : ℕ) (r : Option ℕ) → earlier (earlier f (when b then Some i else None)) r ≡ earlier f (when b then Some i else r)
+earlier-if (Some j) b i r = refl
+earlier-if None true i r = refl
+earlier-if None false i r = refl
 
 -- the first of one
-earlier-nowhere : (f : Found) → earlier f Nowhere ≡ f
-earlier-nowhere (At j) = refl
-earlier-nowhere Nowhere = refl
+earlier-nowhere : (f : Option ℕ) → earlier f None ≡ f
+earlier-nowhere (Some j) = refl
+earlier-nowhere None = refl
 
 -- while the nexus sends no page, the place stays, and the first action on it is noted
 trail-silent : (n : ℕ) (l : List Did) (i : ℕ) (t : Trail) → silent n l ≡ true → trail_over n i l t ≡ record { left = t.left; first = earlier t.first (first_touched t.left i l) }
@@ -109,7 +108,7 @@ unfolding trail_over silent first_touched followed
 trail-silent n [] i t h = ap (λ f. record { left = t.left; first = f }) (sym (earlier-nowhere t.first))
 trail-silent n (d ∷ l) i t h =
     let other : accepts n d.effect ≡ false = not-true _ (and_left _ (silent n l) h) in
-    let next : Trail = record { left = t.left; first = earlier t.first (when hits t.left d.actions then At i else Nowhere) } in
+    let next : Trail = record { left = t.left; first = earlier t.first (when hits t.left d.actions then Some i else None) } in
     ap (trail_over n (suc i) l) (if-false (accepts n d.effect) _ _ other)
     ∙ trail-silent n l (suc i) next (and_right (not (accepts n d.effect)) _ h)
     ∙ ap (λ f. record { left = t.left; first = f }) (earlier-if t.first (hits t.left d.actions) i (first_touched t.left (suc i) l))
@@ -120,7 +119,7 @@ trail-page : (n : ℕ) (page : Did) (later : List Did) (i : ℕ) (t : Trail) →
 unfolding trail_over followed
 trail-page n page later i t a h =
     ap (trail_over n (suc i) later) (if-true (accepts n page.effect) _ _ a)
-    ∙ trail-silent n later (suc i) (record { left = page.uses n; first = Nowhere }) h
+    ∙ trail-silent n later (suc i) (record { left = page.uses n; first = None }) h
 
 -- the reading of the whole is the place that the latest page left, and the first later call that acted on it
 pub trail-latest : (n : ℕ) (l : List Did) (x : Latest n l) (t : Trail) → trail_over n 0 l t ≡ record { left = place_left x; first = first_touched (place_left x) (suc (length x.before)) x.later }
@@ -142,11 +141,11 @@ found-touched place i (d ∷ l) =
     (λ t. rw t (found-touched place (suc i) l))
 
 -- a position is found once
-at_once : (i j : ℕ) → At i ≡ At j → i ≡ j
+at_once : (i j : ℕ) → Some i ≡ Some j → i ≡ j
 at_once i j e = cc
 
 -- and it is what it is said to be
-pub first-is : (place i : ℕ) (l : List Did) (j : ℕ) → first_touched place i l ≡ At j → (k : ℕ) × (j ≡ i + k) × First place l k
+pub first-is : (place i : ℕ) (l : List Did) (j : ℕ) → first_touched place i l ≡ Some j → (k : ℕ) × (j ≡ i + k) × First place l k
 unfolding first_touched touched
 first-is place i [] j e = absurd (let z : ◌≡◌ {A = ℕ} 0 1 = cc in omega arith)
 first-is place i (d ∷ l) j e =

@@ -1,5 +1,6 @@
 -- Document 01, P7, P8 and P9, and power-on: what the reading of the history notes, and what demand 3 says of the write.
 -- Assumes nothing.
+use Rattle.std.specs.Prelude.{ℕ, Option, Some, None}
 use Prim.Native.Nat.{ℕ, ◌<◌, ◌^◌}
 use mathlib.Core.Bool.{Bool, true, false, ◌&&◌}
 use mathlib.Core.List.{List, [], ◌∷◌, ◌++◌}
@@ -13,8 +14,6 @@ use Rattle.page.specs.Check.{public_page, supplemental_page, set_page, checked}
 use Rattle.device.specs.Record.{State, power_on, nexus_at}
 use Rattle.device.specs.Selecting.{owned_place, selected}
 use Rattle.device.specs.WellFormed.{set_good, nexus_good, owner_is_local, well_formed}
-use Rattle.device.specs.declared.Found.{Found}
-use Rattle.device.specs.declared.Found.TheVariants.{At, Nowhere}
 use Rattle.marks.specs.Marks.{changes, flagged}
 use Rattle.marks.specs.Reset.{cleared}
 use Rattle.places.specs.Actions.{act, acts, releases, own_place, room, page_actions, sender_after, supplemented, taken}
@@ -41,20 +40,20 @@ locks n = sends n 0x21 0x44
 abbrev restores : ℕ → Call
 restores n = read n (record { kind = 1; key = 0 })
 
-abbrev same_found : Found → Found → Bool
-same_found (At i) (At j) = eqb i j
-same_found (At i) Nowhere = false
-same_found Nowhere (At j) = false
-same_found Nowhere Nowhere = true
+abbrev same_found : Option ℕ → Option ℕ → Bool
+same_found (Some i) (Some j) = eqb i j
+same_found (Some i) None = false
+same_found None (Some j) = false
+same_found None None = true
 
 -- after these calls the reading for nexus n is that place and that first call
 pub record Claim : Type 0 where
   pub calls : List Call
   pub n : ℕ
   pub left : ℕ
-  pub first : Found
+  pub first : Option ℕ
 
-abbrev claim : List Call → ℕ → ℕ → Found → Claim
+abbrev claim : List Call → ℕ → ℕ → Option ℕ → Claim
 claim calls n left first = record { calls = calls; n = n; left = left; first = first }
 
 unfoldable pub holds : Claim → Bool
@@ -66,13 +65,13 @@ every (c ∷ more) = holds c && every more
 
 unfoldable pub table : List Claim
 table =
-    claim (locks 3 ∷ happens Demount ∷ write 3 true ∷ []) 3 1 (At 1)  -- P7: the demount
-    ∷ claim (locks 3 ∷ happens Demount ∷ write 3 true ∷ locks 3 ∷ []) 3 1 Nowhere  -- until it sends a page again
-    ∷ claim (sends 5 0x01 0x44 ∷ write 5 true ∷ sends 6 0x40 0x44 ∷ []) 5 0 (At 2)  -- P8: the ALL page of nexus 6
-    ∷ claim (locks 3 ∷ sends 3 0x20 0x08 ∷ []) 3 1 Nowhere  -- P9: a supplemental key
-    ∷ claim (locks 3 ∷ happens Demount ∷ happens Demount ∷ []) 3 1 (At 1)  -- the second releases an empty place
-    ∷ claim (locks 3 ∷ restores 3 ∷ happens Demount ∷ restores 3 ∷ restores 3 ∷ []) 3 1 (At 2)  -- a read touches no set
-    ∷ claim (locks 3 ∷ power_up ∷ locks 2 ∷ locks 3 ∷ happens Demount ∷ []) 3 2 (At 4)  -- power-on starts anew
+    claim (locks 3 ∷ happens Demount ∷ write 3 true ∷ []) 3 1 (Some 1)  -- P7: the demount
+    ∷ claim (locks 3 ∷ happens Demount ∷ write 3 true ∷ locks 3 ∷ []) 3 1 None  -- until it sends a page again
+    ∷ claim (sends 5 0x01 0x44 ∷ write 5 true ∷ sends 6 0x40 0x44 ∷ []) 5 0 (Some 2)  -- P8: the ALL page of nexus 6
+    ∷ claim (locks 3 ∷ sends 3 0x20 0x08 ∷ []) 3 1 None  -- P9: a supplemental key
+    ∷ claim (locks 3 ∷ happens Demount ∷ happens Demount ∷ []) 3 1 (Some 1)  -- the second releases an empty place
+    ∷ claim (locks 3 ∷ restores 3 ∷ happens Demount ∷ restores 3 ∷ restores 3 ∷ []) 3 1 (Some 2)  -- a read touches no set
+    ∷ claim (locks 3 ∷ power_up ∷ locks 2 ∷ locks 3 ∷ happens Demount ∷ []) 3 2 (Some 4)  -- power-on starts anew
     ∷ []
 
 -- all of them hold

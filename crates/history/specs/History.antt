@@ -1,5 +1,5 @@
 -- Every sequence of calls since power-on: what each call did, read from the record and read without a look at any instance number.
-use Rattle.std.specs.Prelude.{ℕ, suc, ◌+◌, ◌≤◌, ◌<◌, ◌^◌, Bool, true, false, not, ◌&&◌, ◌||◌, List, [], ◌∷◌, ◌++◌, map, ◌≡◌, eqb, length}
+use Rattle.std.specs.Prelude.{ℕ, suc, ◌+◌, ◌≤◌, ◌<◌, ◌^◌, Bool, true, false, not, ◌&&◌, ◌||◌, List, [], ◌∷◌, ◌++◌, map, ◌≡◌, eqb, length, Option, Some, None}
 use Rattle.arrays.specs.Base.{when◌then◌else◌}
 use Rattle.answer.specs.Answers.{number_of, is_done}
 use Rattle.answer.specs.declared.Answer.TheVariants.{Done}
@@ -13,8 +13,6 @@ use Rattle.device.specs.Updates.{with_marks, with_scope, with_lock, with_supplem
 use Rattle.device.specs.declared.Set.{Set}
 use Rattle.device.specs.declared.Marks.{Marks}
 use Rattle.device.specs.declared.Nexus.{Nexus}
-use Rattle.device.specs.declared.Found.{Found}
-use Rattle.device.specs.declared.Found.TheVariants.{At, Nowhere}
 use Rattle.places.specs.Actions.{Action, release_own, establish}
 use Rattle.drive.specs.Calls.{Call, write}
 use Rattle.drive.specs.Checks.{first_of, check1, heard_of, answer}
@@ -192,9 +190,9 @@ drew nexuses places calls = drew_from 0 (power_on nexuses places) calls
 -- ---- the first call that touched the set
 
 -- the position, counted on from i, of the first call that acted on the place
-unfoldable pub first_touched : (place i : ℕ) → List Did → Found
-first_touched place i [] = Nowhere
-first_touched place i (d ∷ later) = when hits place d.actions then At i else first_touched place (suc i) later
+unfoldable pub first_touched : (place i : ℕ) → List Did → Option ℕ
+first_touched place i [] = None
+first_touched place i (d ∷ later) = when hits place d.actions then Some i else first_touched place (suc i) later
 
 -- what it is to be that call: it acted on the place, and none before it did
 pub record First (place : ℕ) (l : List Did) (position : ℕ) : Type 0 where
@@ -210,23 +208,23 @@ pub record First (place : ℕ) (l : List Did) (position : ℕ) : Type 0 where
 -- and the position of the first later call that acted on it
 pub record Trail : Type 0 where
   pub left : ℕ
-  pub first : Found
+  pub first : Option ℕ
 
 -- the first of two that are found, where any other comes later
-abbrev pub earlier : Found → Found → Found
-earlier (At i) other = At i
-earlier Nowhere other = other
+abbrev pub earlier : Option ℕ → Option ℕ → Option ℕ
+earlier (Some i) other = Some i
+earlier None other = other
 
 -- whether there is one
-abbrev pub is_found : Found → Bool
-is_found (At i) = true
-is_found Nowhere = false
+abbrev pub is_found : Option ℕ → Bool
+is_found (Some i) = true
+is_found None = false
 
 -- a call, at position i: such a page sets the reading anew, any other call is noted if it is the first to act on the place
 unfoldable pub followed : (n i : ℕ) → Did → Trail → Trail
 followed n i d t =
-    when accepts n d.effect then record { left = d.uses n; first = Nowhere }
-    else record { left = t.left; first = earlier t.first (when hits t.left d.actions then At i else Nowhere) }
+    when accepts n d.effect then record { left = d.uses n; first = None }
+    else record { left = t.left; first = earlier t.first (when hits t.left d.actions then Some i else None) }
 
 -- the same over a history
 unfoldable pub trail_over : (n i : ℕ) → List Did → Trail → Trail
@@ -235,7 +233,7 @@ trail_over n i (d ∷ later) t = trail_over n (suc i) later (followed n i d t)
 
 -- from power-on
 unfoldable pub trail : (nexuses places n : ℕ) → List Call → Trail
-trail nexuses places n calls = trail_over n 0 (reading nexuses places calls) (record { left = 0; first = Nowhere })
+trail nexuses places n calls = trail_over n 0 (reading nexuses places calls) (record { left = 0; first = None })
 
 -- ---- the default set
 

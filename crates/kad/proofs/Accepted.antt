@@ -1,5 +1,6 @@
 -- A list of descriptors without a fault is two descriptors at most, U-KAD before A-KAD.
 -- Assumes nothing.
+use Rattle.std.specs.Prelude.{ℕ, Option, Some, None}
 use mathlib.Core.Path.{◌≡◌, refl, sym, ap, ◌∙◌}
 use mathlib.Core.Bool.{true, false, not}
 use mathlib.Core.List.{List, [], ◌∷◌, ◌++◌, append-nil}
@@ -19,8 +20,6 @@ use Rattle.kad.specs.Reading.{descriptor_head, type_of, length_of, data_of, next
 use Rattle.kad.specs.Writing.{descriptor}
 use Rattle.kad.specs.declared.Kads.{Kads}
 use Rattle.kad.specs.declared.Listed.{Listed}
-use Rattle.kad.specs.declared.Seen.{Seen}
-use Rattle.kad.specs.declared.Seen.TheVariants.{Nothing, Last}
 use Rattle.kad.proofs.Reading.{most-le, rules-hold, fault-lt}
 use Rattle.kad.proofs.Writing.{some}
 
@@ -43,7 +42,7 @@ pub data-few : (s : List ℕ) → length (data_of s) ≤ length_of s
 data-few s = omega (arith, length-take (length_of s) (drop descriptor_head s))
 
 -- what the rules of a list's first descriptor say
-pub record Formed (s : List ℕ) (seen : Seen) : Type 0 where
+pub record Formed (s : List ℕ) (seen : Option ℕ) : Type 0 where
   pub low : type_of s ≤ 1
   pub rises : rising seen (type_of s) ≡ true
   pub fits : next_of s ≤ length s
@@ -52,7 +51,7 @@ pub record Formed (s : List ℕ) (seen : Seen) : Type 0 where
   pub few : length_of s ≤ most (type_of s)
 
 -- where none of them breaks
-pub formed : (s : List ℕ) (seen : Seen) → descriptor_head ≤ breach (descriptor_rules s seen) descriptor_head → Formed s seen
+pub formed : (s : List ℕ) (seen : Option ℕ) → descriptor_head ≤ breach (descriptor_rules s seen) descriptor_head → Formed s seen
 unfolding descriptor_rules
 formed s seen h =
     let all = rules-hold s seen h in
@@ -66,14 +65,14 @@ formed s seen h =
     }
 
 -- and only there
-pub passes : (s : List ℕ) (seen : Seen) → Formed s seen → breach (descriptor_rules s seen) descriptor_head ≡ descriptor_head
+pub passes : (s : List ℕ) (seen : Option ℕ) → Formed s seen → breach (descriptor_rules s seen) descriptor_head ≡ descriptor_head
 unfolding descriptor_rules
 passes s seen f =
     none (descriptor_rules s seen) descriptor_head
     (le-leb _ _ f.low, (f.rises, (le-leb descriptor_head (length s) (omega arith), (le-leb _ _ f.fits, (eq-eqb _ _ f.blank, (ap not (ne_eqb _ _ f.some), (le-leb _ _ f.few, tt)))))))
 
 -- a list that starts with a descriptor is that descriptor and the rest
-pub front : (s : List ℕ) (seen : Seen) → Formed s seen → s ≡ descriptor (type_of s) (data_of s) ++ drop (next_of s) s
+pub front : (s : List ℕ) (seen : Option ℕ) → Formed s seen → s ≡ descriptor (type_of s) (data_of s) ++ drop (next_of s) s
 front s seen f =
     let few : length_of s ≤ u_most = omega (arith, most-le (type_of s), f.few) in
     let size : length (data_of s) ≡ length_of s = length-take-le (length_of s) (drop descriptor_head s) (omega (arith, length-drop descriptor_head s, f.fits)) in
@@ -87,7 +86,7 @@ front s seen f =
 -- ---- a list without a fault
 
 -- two descriptors at most, and only of types above the last one seen
-pub record Parts (seen : Seen) (s : List ℕ) : Type 0 where
+pub record Parts (seen : Option ℕ) (s : List ℕ) : Type 0 where
   pub u : List ℕ
   pub a : List ℕ
   pub ushort : length u ≤ u_most
@@ -97,12 +96,12 @@ pub record Parts (seen : Seen) (s : List ℕ) : Type 0 where
   pub anone : rising seen 1 ≡ false → a ≡ []
 
 -- the empty list
-no-parts : (seen : Seen) → Parts seen []
+no-parts : (seen : Option ℕ) → Parts seen []
 no-parts seen = record { u = []; a = []; ushort = omega arith; ashort = omega arith; is = refl; unone = λ e. refl; anone = λ e. refl }
 
 -- U-KAD comes first
-join-u : (seen : Seen) (d rest : List ℕ) → rising seen 0 ≡ true → length d ≤ u_most → Parts (Last 0) rest → Parts seen (descriptor 0 d ++ rest)
-join-u Nothing d rest r h p = record {
+join-u : (seen : Option ℕ) (d rest : List ℕ) → rising seen 0 ≡ true → length d ≤ u_most → Parts (Some 0) rest → Parts seen (descriptor 0 d ++ rest)
+join-u None d rest r h p = record {
   u = d;
   a = p.a;
   ushort = h;
@@ -111,10 +110,10 @@ join-u Nothing d rest r h p = record {
   unone = λ e. clash refl e;
   anone = λ e. clash refl e;
 }
-join-u (Last last) d rest r h p = absurd (not-suc-le-zero (ltb-true last 0 r))
+join-u (Some last) d rest r h p = absurd (not-suc-le-zero (ltb-true last 0 r))
 
 -- A-KAD comes last
-join-a : (seen : Seen) (d rest : List ℕ) → rising seen 1 ≡ true → length d ≤ a_most → Parts (Last 1) rest → Parts seen (descriptor 1 d ++ rest)
+join-a : (seen : Option ℕ) (d rest : List ℕ) → rising seen 1 ≡ true → length d ≤ a_most → Parts (Some 1) rest → Parts seen (descriptor 1 d ++ rest)
 join-a seen d rest r h p = record {
   u = [];
   a = d;
@@ -126,14 +125,14 @@ join-a seen d rest r h p = record {
 }
 
 -- a descriptor before such a list
-join : (seen : Seen) (kind : ℕ) (d rest : List ℕ) → kind ≤ 1 → rising seen kind ≡ true → length d ≤ most kind → Parts (Last kind) rest → Parts seen (descriptor kind d ++ rest)
+join : (seen : Option ℕ) (kind : ℕ) (d rest : List ℕ) → kind ≤ 1 → rising seen kind ≡ true → length d ≤ most kind → Parts (Some kind) rest → Parts seen (descriptor kind d ++ rest)
 join seen zero d rest l r h p = join-u seen d rest r h p
 join seen (suc zero) d rest l r h p = join-a seen d rest r h p
 join seen (suc (suc kind)) d rest l r h p = absurd (omega arith)
 
 -- one step: where the rest is such a list, so is the whole
-step-parts : (f : List ℕ → Seen → Kads → Listed) (s : List ℕ) (seen : Seen) (k : Kads) → 0 < length s
-    → ((t : List ℕ) (seen : Seen) (k : Kads) → length t < length s → (f t seen k).good ≡ length t → Parts seen t) → (one_step f s seen k).good ≡ length s → Parts seen s
+step-parts : (f : List ℕ → Option ℕ → Kads → Listed) (s : List ℕ) (seen : Option ℕ) (k : Kads) → 0 < length s
+    → ((t : List ℕ) (seen : Option ℕ) (k : Kads) → length t < length s → (f t seen k).good ≡ length t → Parts seen t) → (one_step f s seen k).good ≡ length s → Parts seen s
 step-parts f s seen k l p e =
     let fault = breach (descriptor_rules s seen) descriptor_head in
     cases (ltb fault descriptor_head)
@@ -143,12 +142,12 @@ step-parts f s seen k l p e =
     let rest = drop (next_of s) s in
     let more = with_data k (type_of s) (data_of s) in
     let size = length-drop (next_of s) s in
-    let ends : next_of s + (f rest (Last (type_of s)) more).good ≡ length s = rw t at e in
-    let q = p rest (Last (type_of s)) more (omega arith) (omega (arith, d.fits)) in
+    let ends : next_of s + (f rest (Some (type_of s)) more).good ≡ length s = rw t at e in
+    let q = p rest (Some (type_of s)) more (omega arith) (omega (arith, d.fits)) in
     rw (front s seen d) (join seen (type_of s) (data_of s) rest d.low d.rises (omega (arith, data-few s, d.few)) q))
 
 -- so a list of which all bytes are good is two descriptors at most
-pub parts : (n : ℕ) (s : List ℕ) (seen : Seen) (k : Kads) → length s ≤ n → (listed n s seen k).good ≡ length s → Parts seen s
+pub parts : (n : ℕ) (s : List ℕ) (seen : Option ℕ) (k : Kads) → length s ≤ n → (listed n s seen k).good ≡ length s → Parts seen s
 unfolding listed
 parts zero [] seen k h e = no-parts seen
 parts zero (b ∷ s) seen k h e = absurd (not-suc-le-zero h)

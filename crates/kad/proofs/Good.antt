@@ -1,5 +1,6 @@
 -- What is read of a list of descriptors, whatever its bytes: lengths in range, zeros past them, arrays of their sizes.
 -- Assumes nothing.
+use Rattle.std.specs.Prelude.{ℕ, Option, Some}
 use mathlib.Core.Path.{◌≡◌}
 use mathlib.Core.Bool.{true}
 use mathlib.Core.List.{List, [], ◌∷◌}
@@ -16,8 +17,6 @@ use Rattle.kad.specs.Kad.{u_most, a_most, no_kads, u_kad, a_kad, with_data, leng
 use Rattle.kad.specs.Reading.{descriptor_head, type_of, data_of, next_of, most, descriptor_rules, listed}
 use Rattle.kad.specs.declared.Kads.{Kads}
 use Rattle.kad.specs.declared.Listed.{Listed}
-use Rattle.kad.specs.declared.Seen.{Seen}
-use Rattle.kad.specs.declared.Seen.TheVariants.{Last}
 use Rattle.kad.proofs.Reading.{room}
 use Rattle.kad.proofs.Accepted.{data-few}
 
@@ -72,17 +71,17 @@ good-with k kind d h g =
     (λ e. record { u = filled u_most d (rw e at h); a = g.a }) (λ e. record { u = g.u; a = filled a_most d (rw e at h) })
 
 -- whatever the list, what is read of it is good where the data so far are
-pub good-listed : (n : ℕ) (s : List ℕ) (seen : Seen) (k : Kads) → Good k → Good (listed n s seen k).kads
+pub good-listed : (n : ℕ) (s : List ℕ) (seen : Option ℕ) (k : Kads) → Good k → Good (listed n s seen k).kads
 unfolding listed
 good-listed zero s seen k g = g
 good-listed (suc n) [] seen k g = g
 good-listed (suc n) (b ∷ s) seen k g =
     let l = b ∷ s in
     let fault = breach (descriptor_rules l seen) descriptor_head in
-    let rest = listed n (drop (next_of l) l) (Last (type_of l)) (with_data k (type_of l) (data_of l)) in
+    let rest = listed n (drop (next_of l) l) (Some (type_of l)) (with_data k (type_of l) (data_of l)) in
     if-elim (λ (r : Listed). Good r.kads) (ltb fault descriptor_head) {x = record { good = fault; kads = k }} {y = record { good = next_of l + rest.good; kads = rest.kads }}
     (λ t. g)
     (λ t.
     let fits = (room l seen (ltb-false fault descriptor_head t)).1 in
     let few = data-few l in
-    good-listed n (drop (next_of l) l) (Last b) (with_data k b (data_of l)) (good-with k b (data_of l) (omega arith) g))
+    good-listed n (drop (next_of l) l) (Some b) (with_data k b (data_of l)) (good-with k b (data_of l) (omega arith) g))

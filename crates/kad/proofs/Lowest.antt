@@ -1,5 +1,6 @@
 -- The first fault of a list of descriptors is the lowest byte at which a rule of any of them breaks.
 -- Assumes nothing.
+use Rattle.std.specs.Prelude.{ℕ, Option, Some}
 use mathlib.Core.Path.{◌≡◌, refl, sym}
 use mathlib.Core.List.{List, [], ◌∷◌}
 use Prim.Native.Nat.{ℕ, zero, suc, ◌+◌, ◌≤◌}
@@ -15,8 +16,6 @@ use Rattle.kad.specs.Kad.{with_data}
 use Rattle.kad.specs.Reading.{descriptor_head, data_of, next_of, descriptor_rules, listed}
 use Rattle.kad.specs.Rules.{shifted, list_rules}
 use Rattle.kad.specs.declared.Kads.{Kads}
-use Rattle.kad.specs.declared.Seen.{Seen}
-use Rattle.kad.specs.declared.Seen.TheVariants.{Last}
 use Rattle.kad.proofs.Reading.{rules-under, rules-hold, room, fault-lt}
 
 -- ---- rules moved to where a descriptor stands
@@ -39,24 +38,24 @@ shifted-sorted i m (r ∷ rs) s = (omega arith, shifted-sorted i r.at rs s.1)
 -- ---- the rules of a list
 
 -- those of one descriptor stand in the order of its bytes
-rules-sorted : (s : List ℕ) (seen : Seen) → Sorted 0 (descriptor_rules s seen)
+rules-sorted : (s : List ℕ) (seen : Option ℕ) → Sorted 0 (descriptor_rules s seen)
 unfolding descriptor_rules
 rules-sorted s seen = omega arith
 
 -- and those of a list in the order of the list's, from its first on
-pub list-sorted : (n i : ℕ) (s : List ℕ) (seen : Seen) → Sorted i (list_rules n i s seen)
+pub list-sorted : (n i : ℕ) (s : List ℕ) (seen : Option ℕ) → Sorted i (list_rules n i s seen)
 unfolding list_rules
 list-sorted zero i s seen = tt
 list-sorted (suc n) i [] seen = tt
 list-sorted (suc n) i (b ∷ s) seen =
     let next = next_of (b ∷ s) in
-    let more = list_rules n (i + next) (drop next (b ∷ s)) (Last b) in
+    let more = list_rules n (i + next) (drop next (b ∷ s)) (Some b) in
     sorted-append (shifted i (descriptor_rules (b ∷ s) seen)) more i (i + descriptor_head) (rw add-zero at (shifted-sorted i 0 (descriptor_rules (b ∷ s) seen) (rules-sorted (b ∷ s) seen)))
     (shifted-under i descriptor_head (descriptor_rules (b ∷ s) seen) (rules-under (b ∷ s) seen)) (omega arith)
-    (sorted-from more (i + descriptor_head) (i + next) (omega arith) (list-sorted n (i + next) (drop next (b ∷ s)) (Last b)))
+    (sorted-from more (i + descriptor_head) (i + next) (omega arith) (list-sorted n (i + next) (drop next (b ∷ s)) (Some b)))
 
 -- The reader's first fault is where the first rule breaks; without one, all bytes to the list's end are good.
-pub first-fault : (n i : ℕ) (s : List ℕ) (seen : Seen) (k : Kads) → length s ≤ n → i + (listed n s seen k).good ≡ breach (list_rules n i s seen) (i + length s)
+pub first-fault : (n i : ℕ) (s : List ℕ) (seen : Option ℕ) (k : Kads) → length s ≤ n → i + (listed n s seen k).good ≡ breach (list_rules n i s seen) (i + length s)
 unfolding listed list_rules
 first-fault zero i [] seen k h = refl
 first-fault zero i (b ∷ s) seen k h = absurd (not-suc-le-zero h)
@@ -66,7 +65,7 @@ first-fault (suc n) i (b ∷ s) seen k h =
     let next = next_of l in
     let rest = drop next l in
     let rules = shifted i (descriptor_rules l seen) in
-    let more = list_rules n (i + next) rest (Last b) in
+    let more = list_rules n (i + next) rest (Some b) in
     let fault = breach (descriptor_rules l seen) descriptor_head in
     let moved : i + fault ≡ breach rules (i + descriptor_head) = sym (shifted-breach i (descriptor_rules l seen) descriptor_head) in
     cases (ltb fault descriptor_head)
@@ -77,7 +76,7 @@ first-fault (suc n) i (b ∷ s) seen k h =
     let size = length-drop next l in
     let ends : i + next + length rest ≡ i + length l = omega arith in
     let decides = high rules more (i + length l) (i + descriptor_head) (i + fault) (shifted-under i descriptor_head (descriptor_rules l seen) (rules-under l seen)) moved (omega arith) in
-    let others = first-fault n (i + next) rest (Last b) (with_data k b (data_of l)) (omega arith) in
+    let others = first-fault n (i + next) rest (Some b) (with_data k b (data_of l)) (omega arith) in
     rw (t, decides, ← ends, ← others) (omega arith))
 
 -- rules that hold do so wherever they point
@@ -86,7 +85,7 @@ shifted-hold i [] h = tt
 shifted-hold i (r ∷ rules) h = (h.0, shifted-hold i rules h.1)
 
 -- where all bytes of a list are good, every rule holds
-pub list-hold : (n i : ℕ) (s : List ℕ) (seen : Seen) (k : Kads) → length s ≤ n → length s ≤ (listed n s seen k).good → AllHold (list_rules n i s seen)
+pub list-hold : (n i : ℕ) (s : List ℕ) (seen : Option ℕ) (k : Kads) → length s ≤ n → length s ≤ (listed n s seen k).good → AllHold (list_rules n i s seen)
 unfolding listed list_rules
 list-hold zero i s seen k h e = tt
 list-hold (suc n) i [] seen k h e = tt
@@ -103,5 +102,5 @@ list-hold (suc n) i (b ∷ s) seen k h e =
     let fits = (room l seen past).0 in
     let more = with_data k b (data_of l) in
     let size = length-drop next l in
-    let ends : length l ≤ next + (listed n rest (Last b) more).good = rw t at e in
-    hold-append (shifted i rules) (list_rules n (i + next) rest (Last b)) (shifted-hold i rules (rules-hold l seen past)) (list-hold n (i + next) rest (Last b) more (omega arith) (omega arith)))
+    let ends : length l ≤ next + (listed n rest (Some b) more).good = rw t at e in
+    hold-append (shifted i rules) (list_rules n (i + next) rest (Some b)) (shifted-hold i rules (rules-hold l seen past)) (list-hold n (i + next) rest (Some b) more (omega arith) (omega arith)))

@@ -1,5 +1,6 @@
 -- The rules of a descriptor, and of a list of them, in plain relations.
 -- Assumes nothing.
+use Rattle.std.specs.Prelude.{ℕ, Option, Some, None}
 use mathlib.Core.Path.{◌≡◌, refl, ap}
 use mathlib.Core.Bool.{false, not}
 use mathlib.Core.Logic.{inl, inr, ⊎_elim}
@@ -17,13 +18,11 @@ use Rattle.wire.proofs.Lowest.{rule-due, breaks-append}
 use Rattle.kad.specs.Reading.{type_of, length_of, next_of, most, rising, descriptor_rules}
 use Rattle.kad.specs.Rules.{shifted, list_rules}
 use Rattle.kad.specs.Pointing.{NotRising, TooLong, DescriptorFault, ListFault}
-use Rattle.kad.specs.declared.Seen.{Seen}
-use Rattle.kad.specs.declared.Seen.TheVariants.{Nothing, Last}
 
 -- a type that doesn't rise
-not-rising : (seen : Seen) (kind : ℕ) → Exactly (rising seen kind ≡ false) (NotRising seen kind)
-not-rising Nothing kind = (λ e. clash refl e, λ x. absurd x)
-not-rising (Last before) kind = not-below before kind
+not-rising : (seen : Option ℕ) (kind : ℕ) → Exactly (rising seen kind ≡ false) (NotRising seen kind)
+not-rising None kind = (λ e. clash refl e, λ x. absurd x)
+not-rising (Some before) kind = not-below before kind
 
 -- no bytes
 no_bytes : (size : ℕ) → Exactly (not (eqb size 0) ≡ false) (size ≡ 0)
@@ -37,7 +36,7 @@ too_long kind size = (
 )
 
 -- A rule of a descriptor breaks at a byte exactly if the byte is wrong as document 01 says, and 02 points to it.
-pub descriptor-due : (s : List ℕ) (seen : Seen) (i : ℕ) → Exactly (BreaksAt i (descriptor_rules s seen)) (DescriptorFault s seen i)
+pub descriptor-due : (s : List ℕ) (seen : Option ℕ) (i : ℕ) → Exactly (BreaksAt i (descriptor_rules s seen)) (DescriptorFault s seen i)
 unfolding descriptor_rules
 descriptor-due s seen i =
     exactly-or (rule-due i 0 (not-most (type_of s) 1))
@@ -61,13 +60,13 @@ shifted-from i k [] l b = absurd b
 shifted-from i k (r ∷ rs) l b = ⊎_elim (λ h. let at : r.at ≡ i - k = h.0 in inl (omega (arith, at, l), h.1)) (λ h. inr (shifted-from i k rs l h)) b
 
 -- A rule of a list of descriptors breaks at a byte of the page exactly if the byte is wrong so in one of them.
-pub list-faults : (n k : ℕ) (s : List ℕ) (seen : Seen) (i : ℕ) → Exactly (BreaksAt i (list_rules n k s seen)) (ListFault n k s seen i)
+pub list-faults : (n k : ℕ) (s : List ℕ) (seen : Option ℕ) (i : ℕ) → Exactly (BreaksAt i (list_rules n k s seen)) (ListFault n k s seen i)
 unfolding list_rules ListFault
 list-faults zero k s seen i = exactly-same
 list-faults (suc n) k [] seen i = exactly-same
 list-faults (suc n) k (b ∷ s) seen i =
     let l = b ∷ s in
     let rules = descriptor_rules l seen in
-    breaks-append i (shifted k rules) (list_rules n (k + next_of l) (drop (next_of l) l) (Last b))
+    breaks-append i (shifted k rules) (list_rules n (k + next_of l) (drop (next_of l) l) (Some b))
     (exactly-by (shifted-to i k rules, λ h. shifted-from i k rules h.0 h.1) (exactly-and exactly-same (descriptor-due l seen (i - k))))
-    (list-faults n (k + next_of l) (drop (next_of l) l) (Last b) i)
+    (list-faults n (k + next_of l) (drop (next_of l) l) (Some b) i)

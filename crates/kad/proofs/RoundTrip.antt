@@ -1,5 +1,6 @@
 -- Key-associated data: written and read they are the same, and a list of descriptors, read and written, has the same bytes.
 -- Assumes nothing.
+use Rattle.std.specs.Prelude.{ℕ, Option, Some, None}
 use mathlib.Core.Path.{◌≡◌, refl, sym, ap, ◌∙◌}
 use mathlib.Core.Bool.{true}
 use mathlib.Core.List.{List, [], ◌∷◌, ◌++◌, append-nil}
@@ -19,8 +20,6 @@ use Rattle.kad.specs.Reading.{descriptor_head, length_of, data_of, next_of, most
 use Rattle.kad.specs.Writing.{descriptor, u_data, a_data, descriptors, list_most}
 use Rattle.kad.specs.declared.Kads.{Kads}
 use Rattle.kad.specs.declared.Listed.{Listed}
-use Rattle.kad.specs.declared.Seen.{Seen}
-use Rattle.kad.specs.declared.Seen.TheVariants.{Nothing, Last}
 use Rattle.kad.proofs.Reading.{most-le, reading, reading-nil, reading-cons}
 use Rattle.kad.proofs.Writing.{some, size}
 use Rattle.kad.proofs.Good.{Filled, Good, good_of, good_none, good-listed, good-lengths, good-tails, good-sized}
@@ -33,8 +32,8 @@ abbrev pub whole : List ℕ → Kads → Listed
 whole l k = record { good = length l; kads = k }
 
 -- a descriptor before a list without a fault
-read_first : (seen : Seen) (kind : ℕ) (d rest : List ℕ) (k k' : Kads) → kind ≤ 1 → rising seen kind ≡ true → (length d ≡ 0 → ⊥) → length d ≤ most kind
-    → reading rest (Last kind) (with_data k kind d) ≡ whole rest k' → reading (descriptor kind d ++ rest) seen k ≡ whole (descriptor kind d ++ rest) k'
+read_first : (seen : Option ℕ) (kind : ℕ) (d rest : List ℕ) (k k' : Kads) → kind ≤ 1 → rising seen kind ≡ true → (length d ≡ 0 → ⊥) → length d ≤ most kind
+    → reading rest (Some kind) (with_data k kind d) ≡ whole rest k' → reading (descriptor kind d ++ rest) seen k ≡ whole (descriptor kind d ++ rest) k'
 read_first seen kind d rest k k' l r z m e =
     let s : List ℕ = kind ∷ 0 ∷ 0 ∷ length d ∷ (d ++ rest) in
     let is : descriptor kind d ++ rest ≡ s = ap (λ (t : List ℕ). t ++ rest) (some kind d z (omega (arith, most-le kind))) in
@@ -47,17 +46,17 @@ read_first seen kind d rest k k' l r z m e =
     rw is (reading-cons s seen k (omega arith) ∙ rw (le-ltb (breach (descriptor_rules s seen) descriptor_head) descriptor_head (omega (arith, passes s seen formed)), after, content, e, sum) refl)
 
 -- A-KAD alone, or nothing, after U-KAD
-read-second : (seen : Seen) (u a : List ℕ) → rising seen 1 ≡ true → length a ≤ a_most → reading (descriptor 1 a) seen (kads_of u []) ≡ whole (descriptor 1 a) (kads_of u a)
+read-second : (seen : Option ℕ) (u a : List ℕ) → rising seen 1 ≡ true → length a ≤ a_most → reading (descriptor 1 a) seen (kads_of u []) ≡ whole (descriptor 1 a) (kads_of u a)
 read-second seen u [] r h = reading-nil [] seen (kads_of u []) refl
 read-second seen u (x ∷ a) r h =
-    rw (append-nil a) at (read_first seen 1 (x ∷ a) [] (kads_of u []) (kads_of u (x ∷ a)) (omega arith) r (λ e. omega arith) h (reading-nil [] (Last 1) (kads_of u (x ∷ a)) refl))
+    rw (append-nil a) at (read_first seen 1 (x ∷ a) [] (kads_of u []) (kads_of u (x ∷ a)) (omega arith) r (λ e. omega arith) h (reading-nil [] (Some 1) (kads_of u (x ∷ a)) refl))
 
 -- Data that fit, written as descriptors, are read back, and the reader finds no fault.
 pub read-of-data : (u a : List ℕ) → length u ≤ u_most → length a ≤ a_most
     → read_kads (descriptor 0 u ++ descriptor 1 a) ≡ record { good = length (descriptor 0 u ++ descriptor 1 a); kads = kads_of u a }
-read-of-data [] a h l = read-second Nothing [] a refl l
+read-of-data [] a h l = read-second None [] a refl l
 read-of-data (x ∷ u) a h l =
-    read_first Nothing 0 (x ∷ u) (descriptor 1 a) no_kads (kads_of (x ∷ u) a) (omega arith) refl (λ e. omega arith) h (read-second (Last 0) (x ∷ u) a refl l)
+    read_first None 0 (x ∷ u) (descriptor 1 a) no_kads (kads_of (x ∷ u) a) (omega arith) refl (λ e. omega arith) h (read-second (Some 0) (x ∷ u) a refl l)
 
 -- the first m bytes are no more than m
 taken : (n m : ℕ) (b : List ℕ) → leb m n ≡ true → length (take m b) ≤ n
@@ -107,7 +106,7 @@ descriptors-of u a h l = rw (take-padded u_most u h, take-padded a_most a l) ref
 -- A list in which the reader finds no fault, read and written again, has the same bytes.
 pub written-of-read : (l : List ℕ) → (read_kads l).good ≡ length l → descriptors (read_kads l).kads ≡ l
 written-of-read l e =
-    let p = parts (length l) l Nothing no_kads (le_refl (length l)) e in
+    let p = parts (length l) l None no_kads (le_refl (length l)) e in
     let d = descriptor 0 p.u ++ descriptor 1 p.a in
     let back : descriptors (read_kads d).kads ≡ d =
     ap (λ (r : Listed). descriptors r.kads) (read-of-data p.u p.a p.ushort p.ashort) ∙ descriptors-of p.u p.a p.ushort p.ashort in
@@ -118,7 +117,7 @@ written-of-read l e =
 module _ (l : List ℕ) where
   -- whatever the list, without a fault or not
   good : Good (read_kads l).kads
-  good = good-listed (length l) l Nothing no_kads good_none
+  good = good-listed (length l) l None no_kads good_none
 
   -- What is read of any list has lengths in range,
   pub read-lengths-good : lengths_good (read_kads l).kads ≡ true

@@ -2,8 +2,7 @@
 use Rattle.std.specs.Prelude.{ℕ, ◌≡◌, Bool, ◌&&◌, List, leb, eqb, length, drop, replicate}
 use Rattle.arrays.specs.Base.{when◌then◌else◌}
 use Rattle.wire.specs.Buffers.{padded, all_zero}
-use Rattle.kad.specs.declared.UKad.{UKad}
-use Rattle.kad.specs.declared.AKad.{AKad}
+use Rattle.kad.specs.declared.Kad.{Kad}
 use Rattle.kad.specs.declared.Kads.{Kads}
 
 -- the most bytes of each
@@ -14,11 +13,14 @@ abbrev pub a_most : ℕ
 a_most = 12
 
 -- the data, and zeros past its length
-abbrev pub u_kad : List ℕ → UKad
-u_kad d = record { length = length d; bytes = padded u_most d }
+abbrev pub kad : (most : ℕ) → List ℕ → Kad most
+kad most d = record { length = length d; bytes = padded most d }
 
-abbrev pub a_kad : List ℕ → AKad
-a_kad d = record { length = length d; bytes = padded a_most d }
+abbrev pub u_kad : List ℕ → Kad u_most
+u_kad = kad u_most
+
+abbrev pub a_kad : List ℕ → Kad a_most
+a_kad = kad a_most
 
 abbrev pub kads_of : List ℕ → List ℕ → Kads
 kads_of u a = record { ukad = u_kad u; akad = a_kad a }

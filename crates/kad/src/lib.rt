@@ -1,54 +1,41 @@
 // Key-associated data: read from a list of descriptors, and written as one.
 #![tactic(auto)]
 
-// Up to 32 bytes; those past the length are zero.
+// Up to N bytes; those past the length, which stands beside since memory is fixed, are zero.
 #[derive(Clone, Copy)]
-pub struct UKad {
+pub struct Kad<const N: usize> {
     pub length: u8,
-    pub bytes: [u8; 32],
-}
-
-// Up to 12 bytes; those past the length are zero.
-#[derive(Clone, Copy)]
-pub struct AKad {
-    pub length: u8,
-    pub bytes: [u8; 12],
+    pub bytes: [u8; N],
 }
 
 #[derive(Clone, Copy)]
 pub struct Kads {
-    pub ukad: UKad,
-    pub akad: AKad,
+    pub ukad: Kad<32>,
+    pub akad: Kad<12>,
 }
 
 impl Kads {
     pub const NONE: Kads = Kads {
-        ukad: UKad {
+        ukad: Kad {
             length: 0,
             bytes: [0; 32],
         },
-        akad: AKad {
+        akad: Kad {
             length: 0,
             bytes: [0; 12],
         },
     };
 }
 
-// The last descriptor type seen.
-#[derive(Clone, Copy)]
-pub enum Seen {
-    Nothing,
-    Last(u8),
-}
-
 // How many bytes of a list stand before its first fault, all of them where there is none, and the data.
+// Not a Result: `read_kads` gives the data before a fault too.
 #[derive(Clone, Copy)]
 pub struct Listed {
     pub good: usize,
     pub kads: Kads,
 }
 
-// The descriptors' bytes, zeros after them, and their count.
+// The descriptors' bytes, zeros after them, and their count: by value, since memory is fixed.
 #[derive(Clone, Copy)]
 pub struct Written {
     pub length: usize,

@@ -1,14 +1,15 @@
 // Key-associated data: read from a list of descriptors, and written as one.
 #![tactic(auto)]
 
-ghost use Rattle.std.specs.Prelude.{◌≡◌, ◌+◌, ◌<◌, ◌≤◌, min, length};
+ghost use Rattle.std.specs.Prelude.{◌≡◌, ◌+◌, ◌<◌, ◌≤◌, [], ◌∷◌, length};
 ghost use Rattle.std.proofs.lemmas.List.Edits.{sets};
-ghost use Rattle.wire.specs.Rules.{breach};
+ghost use Rattle.wire.specs.Rules.{rule};
+ghost use Rattle.wire.specs.Tried.{tried};
 ghost use Rattle.kad.specs.Kad.{u_most, with_data, lengths_good, tails_good, kads_zero};
-ghost use Rattle.kad.specs.Reading.{descriptor_head, most, rising, descriptor_rules, listed, read_kads};
+ghost use Rattle.kad.specs.Reading.{most, rising, descriptor_rules, listed, read_kads};
 ghost use Rattle.kad.specs.Writing.{descriptor, list_most, written};
 
-use kad::{AKad, Kads, Listed, Seen, UKad, Written};
+use kad::{Kad, Kads, Listed, Written};
 
 const U_MOST: usize = 32;
 
@@ -21,7 +22,7 @@ const LIST_MOST: usize = 52;
 pub fn lengths_good(kads: Kads) -> bool
     ensures { result ≡ lengths_good kads }
 {
-    (kads.ukad.length <= 32) & (kads.akad.length <= 12)
+    (kads.ukad.length as usize <= U_MOST) & (kads.akad.length as usize <= A_MOST)
 }
 
 pub fn tails_good(kads: Kads) -> bool
@@ -52,44 +53,37 @@ fn limit(kind: u8) -> usize
 }
 
 // Whether a type is above the last one seen.
-fn rises(seen: Seen, kind: u8) -> bool
+fn rises(seen: Option<u8>, kind: u8) -> bool
     ensures { result ≡ rising seen kind }
 {
     match seen {
-        Seen::Nothing => true,
-        Seen::Last(last) => last < kind,
+        None => true,
+        Some(last) => last < kind,
     }
 }
 
-// The byte of the first fault in a list's first descriptor, 4 where there is none.
-fn front(list: &[u8], seen: Seen) -> usize
+// One rule, which points to a byte of the list: where the list starts in its page, and so the answer, its caller knows.
+fn check_rule(byte: usize, holds: bool) -> Result<(), usize>
+    ensures { result ≡ tried (rule byte holds ∷ []) }
+{
+    if holds { Ok(()) } else { Err(byte) }
+}
+
+// A list's first descriptor, or the byte of its first fault.
+#[tactic(auto, using(wire::proofs::Tried::in_turn), unfolding(kad::specs::Reading::descriptor_rules))]
+fn check_descriptor(list: &[u8], seen: Option<u8>) -> Result<(), usize>
     requires { 0 < length list.now }
-    ensures { result ≡ breach (descriptor_rules list.now seen) descriptor_head }
+    ensures { result ≡ tried (descriptor_rules list.now seen) }
 {
     let kind = list[0];
-    if 1 < kind {
-        return 0;
-    }
-    if !rises(seen, kind) {
-        return 0;
-    }
-    if list.len() < DESCRIPTOR_HEAD {
-        return 0;
-    }
+    check_rule(0, kind <= 1)?;
+    check_rule(0, rises(seen, kind))?;
+    check_rule(0, DESCRIPTOR_HEAD <= list.len())?;
     let length = wire_code::word_at(list, 2);
-    if list.len() < DESCRIPTOR_HEAD + length {
-        return 0;
-    }
-    if list[1] != 0 {
-        return 1;
-    }
-    if length == 0 {
-        return 2;
-    }
-    if limit(kind) < length {
-        return 2;
-    }
-    DESCRIPTOR_HEAD
+    check_rule(0, DESCRIPTOR_HEAD + length <= list.len())?;
+    check_rule(1, list[1] == 0)?;
+    check_rule(2, length != 0)?;
+    check_rule(2, length <= limit(kind))
 }
 
 // With the data of one type put in.
@@ -99,46 +93,37 @@ fn with_data(kads: Kads, kind: u8, bytes: &[u8]) -> Kads
 {
     let length = bytes.len() as u8;
     if kind == 0 {
-        let padded = wire_code::padded_32(bytes);
-        let akad = kads.akad;
-        return Kads {
-            ukad: UKad {
-                length,
-                bytes: padded,
-            },
-            akad,
-        };
-    }
-    let padded = wire_code::padded_12(bytes);
-    let ukad = kads.ukad;
-    Kads {
-        ukad,
-        akad: AKad {
+        let ukad = Kad {
             length,
-            bytes: padded,
-        },
+            bytes: wire_code::padded(bytes),
+        };
+        Kads { ukad, ..kads }
+    } else {
+        let akad = Kad {
+            length,
+            bytes: wire_code::padded(bytes),
+        };
+        Kads { akad, ..kads }
     }
 }
 
 // Reads one descriptor and hands the rest of the list on, with the last type seen.
-fn read_from(list: &[u8], seen: Seen, kads: Kads) -> Listed
+fn read_from(list: &[u8], seen: Option<u8>, kads: Kads) -> Listed
     ensures { result ≡ listed (length list.now) list.now seen kads }
 {
-    if list.len() == 0 {
+    if list.is_empty() {
         return Listed { good: 0, kads };
     }
-    let fault = front(list, seen);
-    if fault < DESCRIPTOR_HEAD {
+    if let Err(fault) = check_descriptor(list, seen) {
         return Listed { good: fault, kads };
     }
     let kind = list[0];
     let next = DESCRIPTOR_HEAD + wire_code::word_at(list, 2);
     let more = with_data(kads, kind, &list[DESCRIPTOR_HEAD..next]);
-    let rest = read_from(&list[next..], Seen::Last(kind), more);
-    let gathered = rest.kads;
+    let rest = read_from(&list[next..], Some(kind), more);
     Listed {
         good: next + rest.good,
-        kads: gathered,
+        kads: rest.kads,
     }
 }
 
@@ -146,7 +131,7 @@ fn read_from(list: &[u8], seen: Seen, kads: Kads) -> Listed
 pub fn read(list: &[u8]) -> Listed
     ensures { (result ≡ read_kads list.now) × (result.good ≤ length list.now) }
 {
-    read_from(list, Seen::Nothing, Kads::NONE)
+    read_from(list, None, Kads::NONE)
 }
 
 // Stores a descriptor at an index, or nothing where there are no data; answers the index after it.
@@ -154,7 +139,7 @@ fn put_descriptor(buffer: &mut [u8], at: usize, kind: u8, bytes: &[u8]) -> usize
     requires { (at ≤ list_most) × (length bytes.now ≤ u_most) }
     ensures { (result ≡ at + length (descriptor kind bytes.now)) × (buffer.new ≡ sets buffer.old at (descriptor kind bytes.now)) }
 {
-    if bytes.len() == 0 {
+    if bytes.is_empty() {
         return at;
     }
     let length = bytes.len();
@@ -164,22 +149,14 @@ fn put_descriptor(buffer: &mut [u8], at: usize, kind: u8, bytes: &[u8]) -> usize
     at + DESCRIPTOR_HEAD + length
 }
 
-// The lower of two numbers.
-fn at_most(n: u8, most: usize) -> usize
-    ensures { result ≡ min n most }
-{
-    let length = n as usize;
-    if most < length { most } else { length }
-}
-
 // Writes the descriptors, U-KAD first.
 pub fn write(kads: Kads) -> Written
     ensures { (result ≡ written kads) × (result.length ≤ list_most) }
 {
     let u = kads.ukad.bytes;
     let a = kads.akad.bytes;
-    let u_length = at_most(kads.ukad.length, U_MOST);
-    let a_length = at_most(kads.akad.length, A_MOST);
+    let u_length = (kads.ukad.length as usize).min(U_MOST);
+    let a_length = (kads.akad.length as usize).min(A_MOST);
     let mut bytes = [0u8; LIST_MOST];
     let next = put_descriptor(&mut bytes, 0, 0, &u[..u_length]);
     let length = put_descriptor(&mut bytes, next, 1, &a[..a_length]);

@@ -1,5 +1,6 @@
 -- What holds of no fields and of every page that makes a set holds of every set since power-on: so no call brings what request 2 refuses.
 -- Assumes nothing.
+use Rattle.std.specs.Prelude.{ℕ, Option, Some, None}
 use Prim.Native.Nat.{ℕ, zero, suc, ◌<◌}
 use mathlib.Core.Path.{◌≡◌, refl, sym, subst}
 use mathlib.Core.Bool.{Bool, true, false}
@@ -19,8 +20,6 @@ use Rattle.page.specs.declared.Page.{Page}
 use Rattle.device.specs.Record.{State, set_at, no_set, empty_set, power_on}
 use Rattle.device.specs.Selecting.{selected}
 use Rattle.device.specs.declared.Set.{Set}
-use Rattle.device.specs.declared.Found.{Found}
-use Rattle.device.specs.declared.Found.TheVariants.{At, Nowhere}
 use Rattle.marks.specs.Marks.{changes, flagged}
 use Rattle.marks.specs.Reset.{cleared}
 use Rattle.places.specs.Actions.{Action, establish, act, acts, releases, release_found, own_place, room, establish_in, page_actions, sender_after, supplemented, taken, released_by}
@@ -69,9 +68,9 @@ module _ (P : Fields → Type 0) (none : P no_fields) (past : P no_set.fields) (
   released picked sets = releases-elim Brought tt (λ place rest h. (none, h)) picked sets
 
   -- a page its fields, after a release or not
-  own-released : (found : Found) → Brought (release_found found)
-  own-released (At place) = (none, tt)
-  own-released Nowhere = tt
+  own-released : (found : Option ℕ) → Brought (release_found found)
+  own-released (Some place) = (none, tt)
+  own-released None = tt
 
   brought-append : (actions more : List Action) → Brought actions → Brought more → Brought (actions ++ more)
   brought-append [] more b h = h

@@ -1,5 +1,6 @@
 -- Every call leaves a well-formed record well formed.
 -- Assumes nothing.
+use Rattle.std.specs.Prelude.{ℕ, Option}
 use Prim.Native.Nat.{ℕ, ◌<◌}
 use mathlib.Core.Path.{◌≡◌, refl, sym, ap, ◌∙◌}
 use mathlib.Core.Bool.{Bool, true, false, not, ◌&&◌, ◌||◌}
@@ -26,7 +27,6 @@ use Rattle.parameters.proofs.Good.{ranges-good}
 use Rattle.device.proofs.WellFormed.{power-on-well}
 use Rattle.marks.specs.Marks.{remarked, changed, changes, told, alerted, flagged}
 use Rattle.marks.specs.Reset.{unmarked, cleared}
-use Rattle.marks.specs.declared.Actor.{Actor}
 use Rattle.places.specs.Actions.{released_by, room, is_no_room, taken}
 use Rattle.places.specs.declared.Room.{Room}
 use Rattle.places.specs.declared.Room.TheVariants.{NoRoom}
@@ -43,7 +43,7 @@ changes-kept : (s : State) (n : ℕ) (change : Change) → well_formed (changes 
 unfolding changes
 changes-kept s n change = mark-kept n (remarked (changed change)) s refl
 
-flagged-kept : (differ : ℕ → Bool) (actor : Actor) (s t : State) → well_formed (flagged differ actor s t) ≡ well_formed t
+flagged-kept : (differ : ℕ → Bool) (actor : Option ℕ) (s t : State) → well_formed (flagged differ actor s t) ≡ well_formed t
 unfolding flagged
 flagged-kept differ actor s t = marks-kept (λ n. remarked (alerted actor (told differ s actor n))) (λ n x. refl) t
 

@@ -1,5 +1,6 @@
 -- Taking an accepted page, and releasing sets by an event, leave a well-formed record well formed.
 -- Assumes nothing.
+use Rattle.std.specs.Prelude.{ℕ, Option, Some, None}
 use Prim.Native.Nat.{ℕ, zero, suc, ◌+◌, ◌*◌, ◌≤◌, ◌<◌}
 use mathlib.Core.Path.{◌≡◌, refl, sym, ap, subst, ◌∙◌}
 use mathlib.Core.Bool.{Bool, true, false, not}
@@ -28,8 +29,6 @@ use Rattle.device.specs.WellFormed.{set_good, well_formed}
 use Rattle.parameters.specs.declared.Supplemental.{Supplemental}
 use Rattle.device.specs.declared.Set.{Set}
 use Rattle.device.specs.declared.Nexus.{Nexus}
-use Rattle.device.specs.declared.Found.{Found}
-use Rattle.device.specs.declared.Found.TheVariants.{At, Nowhere}
 use Rattle.arrays.proofs.Counting.{count_none, count-some, find-counted}
 use Rattle.device.proofs.Selecting.{selected-shared, selected-local, own}
 use Rattle.parameters.proofs.Good.{ranges}
@@ -150,13 +149,13 @@ module _ (s : State) (w : well_formed s ≡ true) (n : ℕ) where
       (λ t. t))
 
   -- what holds where the nexus owns no place, and where it owns the place found and no other, holds of its own place
-  pub own-by : (P : Found → Type 0) → ((k : ℕ) → k < length s.sets → 0 < k → owns n (set_at s k) ≡ true → held n s ≡ 1 → P (At k)) → (held n s ≡ 0 → P Nowhere) → P (own_place s n)
+  pub own-by : (P : Option ℕ → Type 0) → ((k : ℕ) → k < length s.sets → 0 < k → owns n (set_at s k) ≡ true → held n s ≡ 1 → P (Some k)) → (held n s ≡ 0 → P None) → P (own_place s n)
   unfolding own_place owned_place
   own-by P at none =
       if-elim P (eqb (nexus_at s n).scope local_scope)
       (λ t.
       let one : held n s ≡ 1 = (nexus-at s w n).local (eqb-true _ _ t) in
-      find-counted (λ (p : ℕ). owns n) no_set At Nowhere P s.sets (λ k l o. at k l (own s w n k o).later o one) (omega (arith, one)))
+      find-counted (λ (p : ℕ). owns n) no_set Some None P s.sets (λ k l o. at k l (own s w n k o).later o one) (omega (arith, one)))
       (λ f. none (owns_none f))
 
 -- the place is one of those for LOCAL sets, and the nexus owns no other
@@ -173,11 +172,11 @@ RoomFit s n NoRoom = Unit
 
 module _ (s : State) (w : well_formed s ≡ true) (n : ℕ) where
   -- where the nexus owns none, the lowest empty place, else the lowest whose owner has lock 0
-  vacant-found : held n s ≡ 0 → RoomFit s n (free_at (find At Nowhere empty_local s.sets) (evicting_at (find At Nowhere (unlocked_local s) s.sets)))
+  vacant-found : held n s ≡ 0 → RoomFit s n (free_at (find Some None empty_local s.sets) (evicting_at (find Some None (unlocked_local s) s.sets)))
   vacant-found z =
-      find-by At Nowhere empty_local no_set (λ f. RoomFit s n (free_at f (evicting_at (find At Nowhere (unlocked_local s) s.sets)))) s.sets
+      find-by Some None empty_local no_set (λ f. RoomFit s n (free_at f (evicting_at (find Some None (unlocked_local s) s.sets)))) s.sets
       (λ k l t. record { within = l; later = not-zero k (and_left _ _ t); others = z ∙ sym (ap bit (unowned (set_at s k) (and_right (not (eqb k 0)) _ t))) })
-      (find-by At Nowhere (unlocked_local s) no_set (λ f. RoomFit s n (evicting_at f)) s.sets
+      (find-by Some None (unlocked_local s) no_set (λ f. RoomFit s n (evicting_at f)) s.sets
       (λ k l t. (record { within = l; later = not-zero k (and_left _ _ t); others = z ∙ sym (ap bit (unowned-at k l)) }, z))
       tt)
     where
@@ -194,7 +193,7 @@ module _ (s : State) (w : well_formed s ≡ true) (n : ℕ) where
   pub room-fit : RoomFit s n (room s n)
   unfolding room
   room-fit =
-      own-by s w n (λ f. RoomFit s n (free_at f (free_at (find At Nowhere empty_local s.sets) (evicting_at (find At Nowhere (unlocked_local s) s.sets)))))
+      own-by s w n (λ f. RoomFit s n (free_at f (free_at (find Some None empty_local s.sets) (evicting_at (find Some None (unlocked_local s) s.sets)))))
       (λ k l z o c. record { within = l; later = z; others = c ∙ sym (ap bit o) })
       vacant-found
 

@@ -1,5 +1,6 @@
 -- A record that is well formed but for nexuses left out, and what an action keeps of it.
 -- Assumes nothing.
+use Rattle.std.specs.Prelude.{Some, None}
 use Prim.Native.Nat.{ℕ, ◌+◌, ◌≤◌, ◌<◌}
 use mathlib.Core.Path.{◌≡◌, refl, sym, ap, subst, ◌∙◌}
 use mathlib.Core.Bool.{Bool, true, false, not}
@@ -18,7 +19,6 @@ use Rattle.device.specs.Selecting.{owns, owned_place, or_else, selected}
 use Rattle.device.specs.WellFormed.{set_good, has_all, well_formed}
 use Rattle.device.specs.declared.Set.{Set}
 use Rattle.device.specs.declared.Nexus.{Nexus}
-use Rattle.device.specs.declared.Found.TheVariants.{At, Nowhere}
 use Rattle.arrays.proofs.Counting.{count_set, count-unique, count-one, find-counted}
 use Rattle.device.proofs.Selecting.{selected-own, selected-shared}
 use Rattle.device.proofs.WellFormed.{GoodNexus, nexus-good, good-set, empty-good, owner-local, place-local, well, well-formed, used-within, nexus-at, owner_at}
@@ -81,7 +81,7 @@ selects s i place e c o =
     let few : held i s ≤ 1 = omega (arith, c) in
     let some : 0 < held i s = omega (arith, c) in
     selected-own s i e
-    ∙ find-counted (λ (p : ℕ). owns i) no_set At Nowhere (λ f. or_else f 0 ≡ place) s.sets (λ k l t. count-unique (λ (p : ℕ). owns i) no_set s.sets k place few l within t o) some
+    ∙ find-counted (λ (p : ℕ). owns i) no_set Some None (λ f. or_else f 0 ≡ place) s.sets (λ k l t. count-unique (λ (p : ℕ). owns i) no_set s.sets k place few l within t o) some
 
 -- the place of a used set that is not place 0 is its owner's
 pub owned : (out : ℕ → Bool) (s : State) → Near out s → (place : ℕ) → 0 < place → used (set_at s place) ≡ true → owns (set_at s place).owner (set_at s place) ≡ true

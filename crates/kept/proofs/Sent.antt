@@ -1,5 +1,6 @@
 -- The set that an accepted page leaves its sender using is that page's.
 -- Assumes nothing.
+use Rattle.std.specs.Prelude.{ℕ, Option}
 use Prim.Native.Nat.{ℕ, ◌<◌}
 use mathlib.Core.Path.{◌≡◌, refl, sym, ap, subst, ◌∙◌}
 use mathlib.Core.Bool.{Bool, true, false}
@@ -27,7 +28,6 @@ use Rattle.device.specs.declared.Set.{Set}
 use Rattle.device.specs.declared.Nexus.{Nexus}
 use Rattle.device.proofs.Selecting.{selected-shared, selected-only}
 use Rattle.marks.specs.Marks.{changes, flagged}
-use Rattle.marks.specs.declared.Actor.{Actor}
 use Rattle.places.specs.Actions.{Action, release, establish, act, acts, release_own, room, establish_in, page_actions, sender_after, taken}
 use Rattle.places.specs.declared.Room.{Room}
 use Rattle.places.specs.declared.Room.TheVariants.{Free, Evicting, NoRoom}
@@ -80,7 +80,7 @@ module _ (n : ℕ) where
   unfolding changes
   changes-scope s change l = ap (λ (x : Nexus). x.scope) (get_or-set_same s.nexuses n _ new_nexus l)
 
-  flagged-scope : (differ : ℕ → Bool) (actor : Actor) (s t : State) → n < length t.nexuses → (nexus_at (flagged differ actor s t) n).scope ≡ (nexus_at t n).scope
+  flagged-scope : (differ : ℕ → Bool) (actor : Option ℕ) (s t : State) → n < length t.nexuses → (nexus_at (flagged differ actor s t) n).scope ≡ (nexus_at t n).scope
   unfolding flagged
   flagged-scope differ actor s t l = ap (λ (x : Nexus). x.scope) (get_d-map_from _ t.nexuses n new_nexus new_nexus l)
 

@@ -1,5 +1,6 @@
 -- Unit attentions from the words are those of document 01's sentence.
 -- Assumes nothing.
+use Rattle.std.specs.Prelude.{ℕ, Option}
 use Prim.Native.Nat.{ℕ, ◌<◌}
 use mathlib.Core.Path.{◌≡◌, refl, sym, ap, ◌∙◌}
 use mathlib.Core.Bool.{Bool, not, ◌||◌}
@@ -27,7 +28,6 @@ use Rattle.answer.specs.declared.Change.{Change}
 use Rattle.marks.specs.Marks.{remarked, changed, changes, differs, told, alerted, flagged}
 use Rattle.marks.specs.Reset.{unmarked, cleared}
 use Rattle.marks.specs.Parts.{told_by}
-use Rattle.marks.specs.declared.Actor.{Actor}
 
 module _ (s t : State) (some : 0 < length s.sets) (places : length t.sets ≡ length s.sets) (nexuses : length t.nexuses ≡ length s.nexuses) where
   -- a place's number differs
@@ -60,7 +60,7 @@ module _ (s t : State) (some : 0 < length s.sets) (places : length t.sets ≡ le
       (λ n l. some-changes renumbered (length s.sets) (selected s n) (selected t n) (selected-within s n some) ∙ differs-by n)
 
   -- so the flags are the same
-  pub same_flags : (actor : Actor) → flagged (bit_of (changed_word (length t.sets) s.sets t.sets (words s) (words t))) actor s t ≡ flagged (differs s t) actor s t
+  pub same_flags : (actor : Option ℕ) → flagged (bit_of (changed_word (length t.sets) s.sets t.sets (words s) (words t))) actor s t ≡ flagged (differs s t) actor s t
   unfolding flagged
   same_flags actor =
       let word = changed_word (length t.sets) s.sets t.sets (words s) (words t) in
@@ -72,7 +72,7 @@ module _ (s t : State) (some : 0 < length s.sets) (places : length t.sets ≡ le
 -- ---- what changes no word
 
 -- flags
-flagged-words : (differ : ℕ → Bool) (actor : Actor) (s t : State) → words (flagged differ actor s t) ≡ words t
+flagged-words : (differ : ℕ → Bool) (actor : Option ℕ) (s t : State) → words (flagged differ actor s t) ≡ words t
 unfolding flagged
 flagged-words differ actor s t =
     let f : ℕ → Nexus → Nexus = λ n. remarked (alerted actor (told differ s actor n)) in
@@ -91,7 +91,7 @@ unfolding cleared
 cleared-words s = words-kept s (cleared s) refl (length-map s.nexuses unmarked) (remade-scopes unmarked (λ x. refl) s)
 
 -- "Unit attentions are then given from the words, with the same flags as before", and the words are what the scopes say
-pub told-by-words : (actor : Actor) (s t : State) → 0 < length s.sets → length t.sets ≡ length s.sets → length t.nexuses ≡ length s.nexuses
+pub told-by-words : (actor : Option ℕ) (s t : State) → 0 < length s.sets → length t.sets ≡ length s.sets → length t.nexuses ≡ length s.nexuses
     → told_by actor (with_words s) t ≡ with_words (flagged (differs s t) actor s t)
 unfolding told_by
 told-by-words actor s t some places nexuses =

@@ -1,11 +1,12 @@
 -- What a nexus is told, from parts of the record.
 -- Assumes nothing.
-use Prim.Native.Nat.{ℕ, ◌+◌, ◌/◌, ◌%◌, ◌^◌, ◌<◌}
+use Rattle.std.specs.Prelude.{ℕ, Option, Some, None}
+use Prim.Native.Nat.{ℕ, ◌+◌, ◌/◌, ◌%◌, ◌^◌, ◌≤◌, ◌<◌}
 use mathlib.Core.Path.{◌≡◌, refl, sym, ap, ap₂, subst, ◌∙◌}
 use mathlib.Core.Bool.{Bool, true, false, not, ◌&&◌, ◌||◌, or-false, and-false, and_assoc, and_comm}
 use mathlib.Core.List.{List}
 use native.Mathlib.Omega.{arith}
-use borrow.Author.Tests.{eqb-true, eqb-false, eq-eqb, ne_eqb, not-false, ltb-true, ltb-false}
+use borrow.Author.Tests.{eqb-true, eqb-false, eq-eqb, ne_eqb, ltb-true}
 use lib.Dec.{eqb, ltb}
 use lib.ListN.{length, get_or, set}
 use lib.Pow.{shr-shr}
@@ -21,21 +22,19 @@ use Rattle.device.specs.Updates.{with_nexuses}
 use Rattle.device.specs.declared.Nexus.{Nexus}
 use Rattle.marks.specs.Marks.{remarked, is_actor, differs, told, alerted, flagged}
 use Rattle.marks.specs.Parts.{told_in, actor_bit}
-use Rattle.marks.specs.declared.Actor.{Actor}
-use Rattle.marks.specs.declared.Actor.TheVariants.{Nobody, Acting}
 
 -- a nexus that is told nothing stays as it is
-pub untold : (actor : Actor) (nexus : Nexus) → remarked (alerted actor false) nexus ≡ nexus
-untold Nobody nexus = simp (or-false)
-untold (Acting m) nexus = simp (or-false)
+pub untold : (actor : Option ℕ) (nexus : Nexus) → remarked (alerted actor false) nexus ≡ nexus
+untold None nexus = simp (or-false)
+untold (Some m) nexus = simp (or-false)
 
 -- a nexus is told nothing where nothing changed
-nobody-told : (actor : Actor) (s : State) (n : ℕ) → told (differs s s) s actor n ≡ false
+nobody-told : (actor : Option ℕ) (s : State) (n : ℕ) → told (differs s s) s actor n ≡ false
 nobody-told actor s n =
     simp (eq-eqb (selected s n) (selected s n) refl, eq-eqb (selected_set s n).number (selected_set s n).number refl, and-false)
 
 -- where nothing changed nobody is told
-pub flag-none : (actor : Actor) (s : State) → flagged (differs s s) actor s s ≡ s
+pub flag-none : (actor : Option ℕ) (s : State) → flagged (differs s s) actor s s ≡ s
 unfolding flagged
 flag-none actor s =
     ap (λ (l : List Nexus). with_nexuses l s)
@@ -45,7 +44,7 @@ flag-none actor s =
 -- ---- from a word of those for whom something changes
 
 -- the loop that tells each nexus, its bits halved away
-module _ (count : ℕ) (actor : Actor) (word : ℕ) (was nexuses : List Nexus) where
+module _ (count : ℕ) (actor : Option ℕ) (word : ℕ) (was nexuses : List Nexus) where
   abbrev pub tells : ℕ → Nexus → Nexus
   tells n = remarked (alerted actor (told_in (get_or was n new_nexus) n actor word))
 
@@ -83,19 +82,20 @@ module _ (count : ℕ) (actor : Actor) (word : ℕ) (was nexuses : List Nexus) w
           halved = halves n rest l.halved;
         }
 
-  -- all are told, or no bit is left
-  pub tell-ends : {n rest : ℕ} {out : List Nexus} → Telling n out rest → (ltb n count && not (eqb rest 0)) ≡ false → out ≡ map_from tells 0 nexuses
-  tell-ends {n} {rest} l e =
-      cases (ltb n count)
-      (λ t.
-      let none : word / 2 ^ n ≡ 0 = sym l.halved ∙ eqb-true rest 0 (not-false (eqb rest 0) (sym (ap (λ (b : Bool). b && not (eqb rest 0)) t) ∙ e)) in
+  -- no bit is left: the others are told nothing
+  pub tell-stops : {n rest : ℕ} {out : List Nexus} → Telling n out rest → rest ≡ 0 → out ≡ map_from tells 0 nexuses
+  tell-stops {n} {rest} l e =
+      let none : word / 2 ^ n ≡ 0 = sym l.halved ∙ e in
       rewrite-rest l.rewritten
       (λ k x h. ap (λ (b : Bool). remarked (alerted actor ((get_or was k new_nexus).marks.registered && not (is_actor actor k) && b)) x) (bits-end word n k none h)
-      ∙ ap (λ (b : Bool). remarked (alerted actor b) x) (and-false ((get_or was k new_nexus).marks.registered && not (is_actor actor k))) ∙ untold actor x))
-      (λ f. rewrite-ends l.rewritten (ltb-false n count f))
+      ∙ ap (λ (b : Bool). remarked (alerted actor b) x) (and-false ((get_or was k new_nexus).marks.registered && not (is_actor actor k))) ∙ untold actor x)
+
+  -- all are told
+  pub tell-ends : {n rest : ℕ} {out : List Nexus} → Telling n out rest → count ≤ n → out ≡ map_from tells 0 nexuses
+  tell-ends l h = rewrite-ends l.rewritten h
 
 -- nobody is told where the word has no bit, or the acting nexus's alone
-module _ (count : ℕ) (actor : Actor) (s t : State) (word : ℕ) (sized : length t.nexuses ≡ count) where
+module _ (count : ℕ) (actor : Option ℕ) (s t : State) (word : ℕ) (sized : length t.nexuses ≡ count) where
   -- none but the acting nexus has a bit
   abbrev OnlyActor : Type 0
   OnlyActor = (n : ℕ) → n < count → (not (is_actor actor n) && bit_of word n) ≡ false
@@ -114,15 +114,15 @@ module _ (count : ℕ) (actor : Actor) (s t : State) (word : ℕ) (sized : lengt
   nothing-changed : word ≡ 0 → OnlyActor
   nothing-changed e n h = ap (λ (w : ℕ). not (is_actor actor n) && bit_of w n) e ∙ ap (λ (b : Bool). not (is_actor actor n) && b) (no-bit n h) ∙ and-false (not (is_actor actor n))
 
-pub quiet : (count : ℕ) (actor : Actor) (s t : State) (word bit : ℕ) → length t.nexuses ≡ count → bit ≡ actor_bit count actor → (eqb word 0 || eqb word bit) ≡ true → flagged (bit_of word) actor s t ≡ t
+pub quiet : (count : ℕ) (actor : Option ℕ) (s t : State) (word bit : ℕ) → length t.nexuses ≡ count → bit ≡ actor_bit count actor → (eqb word 0 || eqb word bit) ≡ true → flagged (bit_of word) actor s t ≡ t
 quiet count actor s t word bit sized e h =
     cases (eqb word 0)
     (λ z. unflagged count actor s t word sized (nothing-changed count actor s t word sized (eqb-true word 0 z)))
     (λ z. unflagged count actor s t word sized (only actor (eqb-true word bit (or-other (eqb word 0) (eqb word bit) h z) ∙ e)))
   where
-    only : (actor : Actor) → word ≡ actor_bit count actor → (n : ℕ) → n < count → (not (is_actor actor n) && bit_of word n) ≡ false
-    only Nobody same n l = nothing-changed count Nobody s t word sized same n l
-    only (Acting m) same n l =
+    only : (actor : Option ℕ) → word ≡ actor_bit count actor → (n : ℕ) → n < count → (not (is_actor actor n) && bit_of word n) ≡ false
+    only None same n l = nothing-changed count None s t word sized same n l
+    only (Some m) same n l =
         cases (ltb m count)
         (λ i.
         let one : word ≡ 2 ^ m = same ∙ if-true (ltb m count) (2 ^ m) 0 i in
@@ -132,4 +132,4 @@ quiet count actor s t word bit sized e h =
         cases (eqb m n)
         (λ y. simp y)
         (λ y. simp (is, y, ne_eqb n m (λ z. eqb-false m n y (sym z)))))
-        (λ i. nothing-changed count (Acting m) s t word sized (same ∙ if-false (ltb m count) (2 ^ m) 0 i) n l)
+        (λ i. nothing-changed count (Some m) s t word sized (same ∙ if-false (ltb m count) (2 ^ m) 0 i) n l)

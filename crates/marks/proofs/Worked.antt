@@ -1,5 +1,6 @@
 -- Worked examples of a logical unit reset and of who is told, in numbers: they pin the definitions, so that code and definition cannot go
 -- wrong alike.
+use Rattle.std.specs.Prelude.{Some, None}
 use Prim.Native.Nat.{ℕ}
 use mathlib.Core.Path.{◌≡◌, refl}
 use mathlib.Core.List.{List, [], ◌∷◌, map}
@@ -11,7 +12,6 @@ use Rattle.device.specs.declared.Set.{Set}
 use Rattle.device.specs.declared.Nexus.{Nexus}
 use Rattle.marks.specs.Marks.{changes, differs, flagged}
 use Rattle.marks.specs.Reset.{unmarked}
-use Rattle.marks.specs.declared.Actor.TheVariants.{Nobody, Acting}
 use Rattle.device.specs.Updates.{with_marks, with_scope, with_lock, with_saved, with_last_local, with_counter, with_sets, with_nexuses}
 
 -- a locked LOCAL nexus with an instance number saved at lock, that of its last LOCAL set, and its marks and flags all set or all clear
@@ -59,14 +59,14 @@ five = nexus 0 true false false ∷ nexus 1 true false false ∷ nexus 0 false f
 
 -- by a page of nexus 3: the registered users of place 0 are told of another nexus; not its sender, not nexus 1, not nexus 2
 pub told-of-page :
-    flagged (differs (before five) (shared five)) (Acting 3) (before five) (shared five)
+    flagged (differs (before five) (shared five)) (Some 3) (before five) (shared five)
     ≡ shared (nexus 0 true true false ∷ nexus 1 true false false ∷ nexus 0 false false false ∷ nexus 0 true false false ∷ nexus 0 true true true ∷ [])
 unfolding flagged selected owned_place
 told-of-page = refl
 
 -- without an acting nexus: all of them, of a vendor event
 pub told-of-event :
-    flagged (differs (before five) (shared five)) Nobody (before five) (shared five)
+    flagged (differs (before five) (shared five)) None (before five) (shared five)
     ≡ shared (nexus 0 true false true ∷ nexus 1 true false false ∷ nexus 0 false false false ∷ nexus 0 true false true ∷ nexus 0 true false true ∷ [])
 unfolding flagged selected owned_place
 told-of-event = refl
@@ -77,14 +77,14 @@ freed = nexus 0 true false false ∷ nexus 0 true false false ∷ nexus 0 false 
 
 -- nexus 1 alone is told: it uses another place than before
 pub told-of-release :
-    flagged (differs (before five) (released freed)) Nobody (before five) (released freed)
+    flagged (differs (before five) (released freed)) None (before five) (released freed)
     ≡ released (nexus 0 true false false ∷ nexus 0 true false true ∷ nexus 0 false false false ∷ nexus 0 true false false ∷ nexus 0 true false true ∷ [])
 unfolding flagged selected owned_place
 told-of-release = refl
 
 -- nor is it told where it preempts its own set
 pub told-of-own :
-    flagged (differs (before five) (released freed)) (Acting 1) (before five) (released freed) ≡ released freed
+    flagged (differs (before five) (released freed)) (Some 1) (before five) (released freed) ≡ released freed
 unfolding flagged selected owned_place
 told-of-own = refl
 

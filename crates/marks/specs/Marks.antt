@@ -1,5 +1,5 @@
 -- Document 01: the registered mark of a nexus and its two pending unit attention flags. What an answer changes of them, and who is told.
-use Rattle.std.specs.Prelude.{ℕ, Bool, true, false, not, ◌&&◌, ◌||◌, eqb}
+use Rattle.std.specs.Prelude.{ℕ, Bool, true, false, not, ◌&&◌, ◌||◌, eqb, Option, Some, None}
 use Rattle.arrays.specs.Arrays.{map_from}
 use Rattle.answer.specs.declared.Change.{Change}
 use Rattle.answer.specs.declared.Change.TheVariants.{Unchanged, AnotherCleared, VendorCleared, Registered}
@@ -8,8 +8,6 @@ use Rattle.device.specs.Selecting.{selected, selected_set}
 use Rattle.device.specs.Updates.{registered, with_another, with_vendor, with_marks, with_nexuses, at_nexus}
 use Rattle.device.specs.declared.Marks.{Marks}
 use Rattle.device.specs.declared.Nexus.{Nexus}
-use Rattle.marks.specs.declared.Actor.{Actor}
-use Rattle.marks.specs.declared.Actor.TheVariants.{Nobody, Acting}
 
 -- a nexus whose marks are made anew
 abbrev pub remarked : (Marks → Marks) → Nexus → Nexus
@@ -34,23 +32,23 @@ unfoldable pub changes : State → ℕ → Change → State
 changes s n change = at_nexus n (remarked (changed change)) s
 
 -- the acting nexus of a page or an event, if any
-abbrev pub is_actor : Actor → ℕ → Bool
-is_actor Nobody n = false
-is_actor (Acting m) n = eqb m n
+abbrev pub is_actor : Option ℕ → ℕ → Bool
+is_actor None n = false
+is_actor (Some m) n = eqb m n
 
 -- "whose selected place or its number differs from before"
 abbrev pub differs : State → State → ℕ → Bool
 differs s t n = not (eqb (selected s n) (selected t n)) || not (eqb (selected_set s n).number (selected_set t n).number)
 
 -- "each nexus that was registered before, isn't the acting one (page sender or preemptor), and whose .. differs from before"
-abbrev pub told : (ℕ → Bool) → State → Actor → ℕ → Bool
+abbrev pub told : (ℕ → Bool) → State → Option ℕ → ℕ → Bool
 told differ s actor n = (nexus_at s n).marks.registered && not (is_actor actor n) && differ n
 
 -- "'another nexus' for pages and preempt, 'vendor event' otherwise": those are the calls with an acting nexus
-abbrev pub alerted : Actor → Bool → Marks → Marks
-alerted Nobody flag marks = with_vendor (marks.vendor || flag) marks
-alerted (Acting m) flag marks = with_another (marks.another || flag) marks
+abbrev pub alerted : Option ℕ → Bool → Marks → Marks
+alerted None flag marks = with_vendor (marks.vendor || flag) marks
+alerted (Some m) flag marks = with_another (marks.another || flag) marks
 
 -- "gets a flag": s is the record before, t the record after, and differ tells whose selected set differs
-unfoldable pub flagged : (ℕ → Bool) → Actor → State → State → State
+unfoldable pub flagged : (ℕ → Bool) → Option ℕ → State → State → State
 flagged differ actor s t = with_nexuses (map_from (λ n. remarked (alerted actor (told differ s actor n))) 0 t.nexuses) t

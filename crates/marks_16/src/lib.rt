@@ -15,7 +15,6 @@ ghost use Rattle.device_16.specs.Model.{state, device, worded, record_of};
 use answer::Change;
 use device::{Nexus, Set};
 use device_16::{Device, Record};
-use marks::Actor;
 use sizes_16::{NEXUSES, PLACES};
 
 // The record with a change in a nexus's marks; past the last nexus, as it was.
@@ -25,28 +24,23 @@ pub fn change_marks(d: Device, n: u8, change: Change) -> Device
     let at = n as usize;
     let mut nexuses = d.nexuses;
     if at < NEXUSES {
-        let nexus = nexuses[at];
-        nexuses[at] = marks_code::remark(nexus, change);
+        nexuses[at] = marks_code::remark(nexuses[at], change);
     }
-    let mut out = d;
-    out.nexuses = nexuses;
-    out
+    Device { nexuses, ..d }
 }
 
 // The same of a record with words, which stay. A change that leaves the marks makes no new record.
 pub fn change_marks_in(r: Record, n: u8, change: Change) -> Record
     ensures { result ≡ record_of (keeping r.words (changes (state r.device) n change)) }
 {
-    let nexuses = r.device.nexuses;
-    let nexus = device_16::nexus_of(nexuses, n as usize);
-    let marks = nexus.marks;
-    if marks_code::keeps_marks(marks, change) {
+    let nexus = device_16::nexus_at(r.device, n as usize);
+    if marks_code::keeps_marks(nexus.marks, change) {
         return r;
     }
-    let words = r.words;
-    let d = r.device;
-    let device = change_marks(d, n, change);
-    Record { device, words }
+    Record {
+        device: change_marks(r.device, n, change),
+        ..r
+    }
 }
 
 // The nexuses for whom something changes, from numbers and words before and after.
@@ -59,6 +53,7 @@ fn changed_word(
     ensures { result ≡ changed_word place_count old new had has }
 {
     let mut word: u64 = 0;
+    // Four arrays in step: an index is plainer than pairs of pairs.
     for place in 0..PLACES {
         let was = old[place];
         let set = new[place];
@@ -69,12 +64,12 @@ fn changed_word(
 }
 
 // The bit of the acting nexus.
-fn actor_bit(actor: Actor) -> u64
+fn actor_bit(actor: Option<u8>) -> u64
     ensures { result ≡ actor_bit nexus_count actor }
 {
     match actor {
-        Actor::Nobody => 0,
-        Actor::Acting(m) => {
+        None => 0,
+        Some(m) => {
             if (m as usize) < NEXUSES {
                 1u64 << (m as usize)
             } else {
@@ -88,47 +83,43 @@ fn actor_bit(actor: Actor) -> u64
 fn alert_by(
     old: [Nexus; NEXUSES],
     new: [Nexus; NEXUSES],
-    actor: Actor,
+    actor: Option<u8>,
     word: u64,
 ) -> [Nexus; NEXUSES]
     ensures { result ≡ map_from (λ n. remarked (alerted actor (told_in (get_or old n new_nexus) n actor word))) 0 new }
 {
     let mut out = new;
     let mut rest = word;
-    let mut n = 0;
-    while (n < NEXUSES) & (rest != 0) {
-        let was = old[n];
-        if (rest % 2 == 1) & marks_code::is_asked(was, actor, n) {
-            let nexus = out[n];
-            out[n] = marks_code::alert(nexus, actor, true);
+    // Two arrays in step, one of them written: an index is plainer.
+    for n in 0..NEXUSES {
+        if rest == 0 {
+            return out;
+        }
+        if (rest % 2 == 1) & marks_code::is_asked(old[n], actor, n) {
+            out[n] = marks_code::alert(out[n], actor, true);
         }
         rest = rest / 2;
-        n += 1;
     }
     out
 }
 
 // After a page or event the record gets its words anew, and each nexus that is concerned a flag, from the words.
-pub fn tell(before: Record, after: Device, actor: Actor) -> Record
+pub fn tell(before: Record, after: Device, actor: Option<u8>) -> Record
     ensures { result ≡ record_of (told_by actor (worded before) (state after)) }
 {
     let words = words_16::words_of(after);
-    let had = before.words;
-    let old_sets = before.device.sets;
-    let new_sets = after.sets;
-    let word = changed_word(old_sets, new_sets, had, words);
+    let word = changed_word(before.device.sets, after.sets, before.words, words);
     if (word == 0) | (word == actor_bit(actor)) {
         return Record {
             device: after,
             words,
         };
     }
-    let old = before.device.nexuses;
-    let new = after.nexuses;
-    let nexuses = alert_by(old, new, actor, word);
-    let mut out = after;
-    out.nexuses = nexuses;
-    Record { device: out, words }
+    let nexuses = alert_by(before.device.nexuses, after.nexuses, actor, word);
+    Record {
+        device: Device { nexuses, ..after },
+        words,
+    }
 }
 
 // The nexuses after a reset, by value, for callers that hold the record.
@@ -144,10 +135,11 @@ fn cleared(nexuses: [Nexus; NEXUSES]) -> [Nexus; NEXUSES]
 pub fn clear(r: Record) -> Record
     ensures { result ≡ record_of (keeping r.words (cleared (state r.device))) }
 {
-    let nexuses = r.device.nexuses;
-    let none = cleared(nexuses);
-    let words = r.words;
-    let mut device = r.device;
-    device.nexuses = none;
-    Record { device, words }
+    Record {
+        device: Device {
+            nexuses: cleared(r.device.nexuses),
+            ..r.device
+        },
+        ..r
+    }
 }

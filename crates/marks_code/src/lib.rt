@@ -8,30 +8,32 @@ ghost use Rattle.marks.specs.Reset.{unmarked};
 
 use answer::Change;
 use device::{Marks, Nexus};
-use marks::Actor;
 
 fn registered(marks: Marks) -> Marks
     ensures { result ≡ registered marks }
 {
-    let mut out = marks;
-    out.registered = true;
-    out
+    Marks {
+        registered: true,
+        ..marks
+    }
 }
 
 fn with_another(marks: Marks, flag: bool) -> Marks
     ensures { result ≡ with_another flag marks }
 {
-    let mut out = marks;
-    out.another = flag;
-    out
+    Marks {
+        another: flag,
+        ..marks
+    }
 }
 
 fn with_vendor(marks: Marks, flag: bool) -> Marks
     ensures { result ≡ with_vendor flag marks }
 {
-    let mut out = marks;
-    out.vendor = flag;
-    out
+    Marks {
+        vendor: flag,
+        ..marks
+    }
 }
 
 // What an answer's row changes in its sender's marks.
@@ -62,70 +64,63 @@ pub fn keeps_marks(marks: Marks, change: Change) -> bool
 pub fn remark(nexus: Nexus, change: Change) -> Nexus
     ensures { result ≡ remarked (changed change) nexus }
 {
-    let marks = nexus.marks;
-    let mut out = nexus;
-    let after = changed(marks, change);
-    out.marks = after;
-    out
-}
-
-fn is_actor(actor: Actor, n: usize) -> bool
-    ensures { result ≡ is_actor actor n }
-{
-    match actor {
-        Actor::Nobody => false,
-        Actor::Acting(m) => m as usize == n,
+    Nexus {
+        marks: changed(nexus.marks, change),
+        ..nexus
     }
 }
 
+fn is_actor(actor: Option<u8>, n: usize) -> bool
+    ensures { result ≡ is_actor actor n }
+{
+    matches!(actor, Some(m) if m as usize == n)
+}
+
 // A nexus that may be told: it was registered before, and isn't the acting one.
-pub fn is_asked(was: Nexus, actor: Actor, n: usize) -> bool
+pub fn is_asked(was: Nexus, actor: Option<u8>, n: usize) -> bool
     ensures { result ≡ (was.marks.registered && not (is_actor actor n)) }
 {
     was.marks.registered & !is_actor(actor, n)
 }
 
 // A flag where told: "another nexus" where one acts, else "vendor event".
-fn alerted(marks: Marks, actor: Actor, flag: bool) -> Marks
+fn alerted(marks: Marks, actor: Option<u8>, flag: bool) -> Marks
     ensures { result ≡ alerted actor flag marks }
 {
     match actor {
-        Actor::Nobody => with_vendor(marks, marks.vendor | flag),
-        Actor::Acting(_) => with_another(marks, marks.another | flag),
+        None => with_vendor(marks, marks.vendor | flag),
+        Some(_) => with_another(marks, marks.another | flag),
     }
 }
 
-pub fn alert(nexus: Nexus, actor: Actor, flag: bool) -> Nexus
+pub fn alert(nexus: Nexus, actor: Option<u8>, flag: bool) -> Nexus
     ensures { result ≡ remarked (alerted actor flag) nexus }
 {
-    let marks = nexus.marks;
-    let mut out = nexus;
-    let after = alerted(marks, actor, flag);
-    out.marks = after;
-    out
+    Nexus {
+        marks: alerted(nexus.marks, actor, flag),
+        ..nexus
+    }
 }
 
 // One nexus without marks; everything else stays.
 fn unmarked(nexus: Nexus) -> Nexus
     ensures { result ≡ unmarked nexus }
 {
-    let mut out = nexus;
-    let none = Marks {
-        registered: false,
-        another: false,
-        vendor: false,
-    };
-    out.marks = none;
-    out
+    Nexus {
+        marks: Marks {
+            registered: false,
+            another: false,
+            vendor: false,
+        },
+        ..nexus
+    }
 }
 
 // Clears the marks of each nexus of a lent slice, however long it is.
 pub fn clear_marks(nexuses: &mut [Nexus])
     ensures { nexuses.new ≡ map unmarked nexuses.old }
 {
-    let mut n = 0;
-    while n < nexuses.len() {
-        nexuses[n] = unmarked(nexuses[n]);
-        n += 1;
+    for nexus in nexuses {
+        *nexus = unmarked(*nexus);
     }
 }

@@ -1,5 +1,6 @@
 -- What is known of an accepted page: a PUBLIC one, one with a supplemental key, or one that makes a set.
 -- Assumes nothing.
+use Rattle.std.specs.Prelude.{None}
 use mathlib.Core.Path.{◌≡◌, refl, ap}
 use mathlib.Core.Bool.{Bool, true, false, not, ◌&&◌}
 use mathlib.Core.Logic.{◌⊎◌, inl, inr}
@@ -19,15 +20,13 @@ use Rattle.answer.specs.Answers.{number_of}
 use Rattle.answer.specs.declared.Answer.{Answer}
 use Rattle.answer.specs.declared.Answer.TheVariants.{Done, PageLengthWrong, FieldWrong, FifthSupplementalKey}
 use Rattle.kad.specs.Kad.{no_kads}
-use Rattle.kad.specs.declared.Seen.TheVariants.{Nothing}
 use Rattle.kad.proofs.Good.{Good, good_none, good-listed}
 use Rattle.parameters.specs.Codes.{encrypts, decrypts}
 use Rattle.parameters.specs.Fields.{key_size, only_key, no_fields, supplemental_most}
 use Rattle.page.specs.Fields.{key_from, scope_of, is_public, ceem_of, rdmc_of, sdk_of, encryption_of, decryption_of, index_of, key_length_of, key_end, list_of, listed_of}
 use Rattle.page.specs.Rules.{open_rules, ceem_wrong, mode_rules, plain_rules, set_rules, match_rules, supplemental_rules}
-use Rattle.page.specs.Check.{refused_page, public_page, supplemental_page, set_said, set_page, checked}
+use Rattle.page.specs.Check.{Checked, refused_page, public_page, supplemental_page, set_said, set_page, checked}
 use Rattle.page.specs.declared.Page.{Page}
-use Rattle.page.specs.declared.Checked.{Checked}
 use Rattle.page.proofs.Parts.{two-or-three, open-under, set-hold, supplemental-hold}
 
 -- a PUBLIC page: "only SCOPE and LOCK are read"
@@ -105,7 +104,7 @@ mode-decrypts p scope mode h = and_left (decrypts mode) _ (and_right (eqb (decry
 list-good : (encryption : ℕ) (rest : List ℕ) → Good (list_of encryption rest).kads
 unfolding list_of
 list-good encryption rest =
-    cases (encrypts encryption) (λ t. rw t (good-listed (length rest) rest Nothing no_kads good_none)) (λ t. rw t good_none)
+    cases (encrypts encryption) (λ t. rw t (good-listed (length rest) rest None no_kads good_none)) (λ t. rw t good_none)
 
 -- ---- past the refusals
 

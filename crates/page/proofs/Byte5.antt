@@ -20,9 +20,8 @@ use Rattle.parameters.specs.Codes.{public_scope, local_scope, all_scope, encrypt
 use Rattle.parameters.specs.Fields.{key_size}
 use Rattle.page.specs.Fields.{key_from, page_code, scope_of, is_public, reserved_of, ceem_of, rdmc_of, sdk_of, encryption_of, decryption_of}
 use Rattle.page.specs.Rules.{open_rules, ceem_wrong, mode_rules, plain_rules, key_length, key_rules, set_rules, match_rules, end_rules, supplemental_rules}
-use Rattle.page.specs.Check.{refused_page, set_page, checked}
+use Rattle.page.specs.Check.{Checked, refused_page, set_page, checked}
 use Rattle.page.specs.Byte5.{MakesSet, RdmcFault, CeemFault, Byte5Fault, WrongAt}
-use Rattle.page.specs.declared.Checked.{Checked}
 use Rattle.page.proofs.Parts.{two-or-three}
 use Rattle.page.proofs.Lowest.{after_rules, inner_rules, page_rules, inner-sorted, page-verdict, length-verdict}
 

@@ -1,5 +1,6 @@
 -- The rules of a Set Data Encryption page in plain relations.
 -- Assumes nothing.
+use Rattle.std.specs.Prelude.{None}
 use mathlib.Core.Path.{◌≡◌, refl, ap}
 use mathlib.Core.Bool.{true, false, not, ◌&&◌}
 use mathlib.Core.Logic.{inl, inr, ⊎_elim}
@@ -13,7 +14,6 @@ use Rattle.arrays.proofs.Base.{cases, both, and_both, or_left_false, or_right_fa
 use Rattle.wire.specs.Numbers.{byte_at}
 use Rattle.wire.specs.Rules.{BreaksAt}
 use Rattle.wire.proofs.Lowest.{rule-due, breaks-append, zeros-due}
-use Rattle.kad.specs.declared.Seen.TheVariants.{Nothing}
 use Rattle.kad.proofs.Pointing.{list-faults}
 use Rattle.parameters.specs.Codes.{decrypts, needs_key}
 use Rattle.page.specs.Fields.{page_code, scope_of, is_public, reserved_of, ceem_of, rdmc_of, sdk_of, encryption_of, decryption_of, key_length_of, key_end}
@@ -82,7 +82,7 @@ module _ (p : List ℕ) where
     unfolding every_list_rule
     list-due =
         let rest = drop (key_end p) p in
-        let listed-due = list-faults (length rest) (key_end p) rest Nothing i in (
+        let listed-due = list-faults (length rest) (key_end p) rest None i in (
           λ b. cases (eqb (byte_at p 6) 2) (λ t. inl (eqb-true _ _ t, listed-due.0 (rw t at b))) (λ f. inr (eqb-false _ _ f, (exactly-last (rule-due i (key_end p) (not-most (length p) (key_end p)))).0 (rw f at b))),
           ⊎_elim (λ h. rw (eq-eqb _ _ h.0) (listed-due.1 h.1)) (λ h. rw (ne_eqb _ _ h.0) ((exactly-last (rule-due i (key_end p) (not-most (length p) (key_end p)))).1 h.1)),
         )

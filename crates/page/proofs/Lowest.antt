@@ -1,5 +1,6 @@
 -- The byte of answer 8 is the lowest at which a rule of the page breaks, over its rules in the order of their bytes.
 -- Assumes nothing.
+use Rattle.std.specs.Prelude.{None}
 use mathlib.Core.Path.{◌≡◌, refl, sym, ◌∙◌}
 use mathlib.Core.Bool.{true, false}
 use mathlib.Core.Logic.{inl, inr}
@@ -22,15 +23,13 @@ use Rattle.pointing.proofs.Judging.{judged-short, judged-wrong, judged-right}
 use Rattle.kad.specs.Kad.{no_kads}
 use Rattle.kad.specs.Reading.{listed}
 use Rattle.kad.specs.Rules.{list_rules}
-use Rattle.kad.specs.declared.Seen.TheVariants.{Nothing}
 use Rattle.kad.proofs.Few.{list-few}
 use Rattle.kad.proofs.Lowest.{list-sorted, list-hold, first-fault}
 use Rattle.parameters.specs.Codes.{encrypts, needs_key}
 use Rattle.parameters.specs.Fields.{key_size, supplemental_most}
 use Rattle.page.specs.Fields.{is_public, sdk_of, reserved_from, reserved_bytes, key_from, encryption_of, decryption_of, key_length_of, key_end, list_of, listed_of}
 use Rattle.page.specs.Rules.{open_rules, mode_rules, plain_rules, key_length, key_rules, set_rules, match_rules, end_rules, supplemental_rules}
-use Rattle.page.specs.Check.{refused_page, public_page, supplemental_page, set_page, checked}
-use Rattle.page.specs.declared.Checked.{Checked}
+use Rattle.page.specs.Check.{Checked, refused_page, public_page, supplemental_page, set_page, checked}
 use Rattle.page.proofs.Parts.{open-under, mode-under, match-under, plain-under, key-under, set-hold, supplemental-hold, key_fits}
 
 -- ---- the rules, as their tests stand in the definitions that the code cites
@@ -39,7 +38,7 @@ use Rattle.page.proofs.Parts.{open-under, mode-under, match-under, plain-under, 
 unfoldable pub after_rules : List ℕ → List Rule
 after_rules p =
     let rest = drop (key_end p) p in
-    when encrypts (encryption_of p) then list_rules (length rest) (key_end p) rest Nothing else rule (key_end p) (leb (length p) (key_end p)) ∷ []
+    when encrypts (encryption_of p) then list_rules (length rest) (key_end p) rest None else rule (key_end p) (leb (length p) (key_end p)) ∷ []
 
 -- past the page code and the scope
 unfoldable pub inner_rules : List ℕ → ℕ → ℕ → List Rule
@@ -88,7 +87,7 @@ unfolding set_rules mode_rules
 set-sorted p = parts-sorted (mode_rules p) (key_rules p (key_length (encryption_of p) (decryption_of p))) p (omega arith) (mode-under p) (key-sorted p _)
 
 -- which point below any byte after it
-set-under : (p : List ℕ) (m : ℕ) → 19 ≤ m → Under m (set_rules p)
+pub set-under : (p : List ℕ) (m : ℕ) → 19 ≤ m → Under m (set_rules p)
 unfolding set_rules
 set-under p m l =
     let keys = key_rules p (key_length (encryption_of p) (decryption_of p)) in
@@ -112,8 +111,8 @@ after_sorted : (p : List ℕ) → Sorted 20 (after_rules p)
 unfolding after_rules
 after_sorted p =
     let rest = drop (key_end p) p in
-    let rules = list_rules (length rest) (key_end p) rest Nothing in
-    cases (encrypts (encryption_of p)) (λ t. rw t (sorted-from rules 20 (key_end p) (omega arith) (list-sorted (length rest) (key_end p) rest Nothing)))
+    let rules = list_rules (length rest) (key_end p) rest None in
+    cases (encrypts (encryption_of p)) (λ t. rw t (sorted-from rules 20 (key_end p) (omega arith) (list-sorted (length rest) (key_end p) rest None)))
     (λ t. rw t (omega arith, tt))
 
 -- past the page code and the scope
@@ -141,7 +140,7 @@ unfolding after_rules list_of
 after-fault p l =
     let rest = drop (key_end p) p in
     let ends : key_end p + length rest ≡ length p = omega (arith, length-drop (key_end p) p) in
-    cases (encrypts (encryption_of p)) (λ t. rw (t, ← ends) (first-fault (length rest) (key_end p) rest Nothing no_kads (le_refl (length rest))))
+    cases (encrypts (encryption_of p)) (λ t. rw (t, ← ends) (first-fault (length rest) (key_end p) rest None no_kads (le_refl (length rest))))
     (λ t. rw t (cases (leb (length p) (key_end p)) (λ u. rw u (omega (arith, leb-true (length p) (key_end p) u))) (λ u. rw u (add-zero (key_end p)))))
 
 -- and where it lies at the page's end, every rule holds
@@ -151,7 +150,7 @@ after-hold p l h =
     let rest = drop (key_end p) p in
     let size = length-drop (key_end p) p in
     cases (encrypts (encryption_of p))
-    (λ t. rw t (let all : length p ≤ key_end p + (listed (length rest) rest Nothing no_kads).good = rw t at h in list-hold (length rest) (key_end p) rest Nothing no_kads (le_refl (length rest)) (omega arith)))
+    (λ t. rw t (let all : length p ≤ key_end p + (listed (length rest) rest None no_kads).good = rw t at h in list-hold (length rest) (key_end p) rest None no_kads (le_refl (length rest)) (omega arith)))
     (λ t. rw t (let all : length p ≤ key_end p + 0 = rw t at h in (le-leb (length p) (key_end p) (omega arith), tt)))
 
 -- its number too is one that two bytes hold, where the key length is right

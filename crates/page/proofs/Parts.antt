@@ -1,10 +1,10 @@
 -- The parts of a page's rules: bytes 4 to 7, bytes 8 to 17, the key, the end.
 -- Assumes nothing.
-use mathlib.Core.Path.{◌≡◌, sym, ◌∙◌}
+use mathlib.Core.Path.{◌≡◌}
 use mathlib.Core.Bool.{true, ◌||◌}
 use mathlib.Core.Logic.{◌⊎◌, inl, inr}
 use mathlib.Core.List.{List, ◌++◌}
-use Prim.Native.Nat.{ℕ, ◌+◌, ◌<◌, ◌≤◌}
+use Prim.Native.Nat.{ℕ, ◌+◌, ◌≤◌}
 use native.Mathlib.Nat.{not-le_of_lt}
 use native.Mathlib.Omega.{arith}
 use borrow.Author.Tests.{eqb-true, leb-true, leb-false}
@@ -12,7 +12,7 @@ use lib.Dec.{leb, eqb}
 use lib.ListN.{length, drop, length-take}
 use Rattle.arrays.proofs.Base.{cases}
 use Rattle.wire.specs.Rules.{Rule, breach, zero_rules}
-use Rattle.wire.proofs.Rules.{AllHold, Under, kept, low, high, rest, under_more, zeros-under}
+use Rattle.wire.proofs.Rules.{AllHold, Under, kept, rest, under_more, zeros-under}
 use Rattle.wire.proofs.Lowest.{first-hold}
 use Rattle.parameters.specs.Fields.{key_size}
 use Rattle.page.specs.Fields.{reserved_from, reserved_size, reserved_bytes, key_from, keyed_size, encryption_of, decryption_of, key_length_of, key_end}
@@ -53,18 +53,6 @@ unfolding key_rules
 key-under p wanted m l = (omega arith, (omega arith, tt))
 
 -- ---- rules of bytes 4 to 7, then of bytes 8 to 17, then others
-
--- a breach of the first is that of all
-pub front-breaks : (xs ys : List Rule) (p : List ℕ) (top q : ℕ) → q ≡ breach xs 8 → q < 8 → q ≡ breach (xs ++ (plain_rules p ++ ys)) top
-front-breaks xs ys p top q e l = sym (low xs (plain_rules p ++ ys) top 8 q e l)
-
--- where they hold, a breach of bytes 8 to 17
-pub plain-breaks : (xs ys : List Rule) (p : List ℕ) (top a q : ℕ) → Under 8 xs → a ≡ breach xs 8 → 8 ≤ a → q ≡ breach (plain_rules p) 18 → q < 18 → q ≡ breach (xs ++ (plain_rules p ++ ys)) top
-plain-breaks xs ys p top a q u d k e l = sym (high xs (plain_rules p ++ ys) top 8 a u d k ∙ low (plain_rules p) ys top 18 q e l)
-
--- where both hold, the others decide
-pub others-decide : (xs ys : List Rule) (p : List ℕ) (top a b : ℕ) → Under 8 xs → a ≡ breach xs 8 → 8 ≤ a → b ≡ breach (plain_rules p) 18 → 18 ≤ b → breach (xs ++ (plain_rules p ++ ys)) top ≡ breach ys top
-others-decide xs ys p top a b u d k e l = high xs (plain_rules p ++ ys) top 8 a u d k ∙ high (plain_rules p) ys top 18 b (plain-under p) e l
 
 -- where none breaks, the first two hold, and none of the others breaks
 pub parts-hold : (xs ys : List Rule) (p : List ℕ) (n : ℕ) → Under 8 xs → 18 ≤ n → n ≤ breach (xs ++ (plain_rules p ++ ys)) n → AllHold xs × (AllHold (plain_rules p) × (n ≤ breach ys n))

@@ -11,8 +11,7 @@ use Rattle.kad.specs.declared.Kads.{Kads}
 use Rattle.parameters.specs.Fields.{no_fields, only_key}
 use Rattle.page.specs.Fields.{set_byte4, set_byte5, list_of}
 use Rattle.page.specs.Rules.{open_rules, mode_rules, plain_rules, key_rules, set_rules, match_rules, end_rules, supplemental_rules}
-use Rattle.page.specs.Check.{refused_page, accepted_page, public_page, supplemental_page, set_page, checked}
-use Rattle.page.specs.declared.Checked.{Checked}
+use Rattle.page.specs.Check.{Checked, refused_page, accepted_page, public_page, supplemental_page, set_page, checked}
 
 -- ---- pages
 

@@ -1,10 +1,10 @@
 -- Which Set Data Encryption pages are refused at byte 5, in plain relations.
+use Rattle.page.specs.Check.{Checked}
 use Rattle.std.specs.Prelude.{ℕ, ◌≡◌, false, ◌⊎◌, List}
 use Rattle.wire.specs.Rules.{length_wrong}
 use Rattle.parameters.specs.Codes.{local_scope, all_scope, disable, encrypt}
 use Rattle.answer.specs.declared.Answer.TheVariants.{FieldWrong}
 use Rattle.page.specs.Fields.{key_from, page_code, scope_of, reserved_of, ceem_of, rdmc_of, sdk_of, encryption_of, decryption_of}
-use Rattle.page.specs.declared.Checked.{Checked}
 
 -- LOCAL or ALL with SDK 0, right up to byte 4
 pub record MakesSet (p : List ℕ) : Type 0 where

@@ -1,17 +1,23 @@
 -- Document 01, "The Set Data Encryption page (0010h)": the whole check. Answer 8 carries the faulty byte (document 02, request 6).
 -- Besides the page it is given the nexus's scope, its set's decryption mode and its count of supplemental keys.
-use Rattle.std.specs.Prelude.{ℕ, ◌+◌, Bool, true, false, List, ltb, leb, length}
+use Rattle.std.specs.Prelude.{ℕ, ◌+◌, Bool, true, false, List, ltb, leb, length, Result, Ok, Err}
 use Rattle.arrays.specs.Base.{when◌then◌else◌}
 use Rattle.wire.specs.Rules.{length_wrong, breach}
-use Rattle.answer.specs.Answers.{sense_of}
+use Rattle.answer.specs.Answers.{is_done, sense_of}
 use Rattle.answer.specs.declared.Answer.{Answer}
+use Rattle.answer.specs.declared.Sense.{Sense}
 use Rattle.answer.specs.declared.Answer.TheVariants.{Done, PageLengthWrong, FieldWrong, FifthSupplementalKey}
 use Rattle.parameters.specs.Fields.{only_key, no_fields, supplemental_most}
 use Rattle.parameters.specs.Codes.{public_scope}
 use Rattle.page.specs.Fields.{key_from, scope_of, is_public, lock_of, sdk_of, key_end, key_of, listed_of, set_fields}
 use Rattle.page.specs.Rules.{open_rules, set_rules, supplemental_rules}
 use Rattle.page.specs.declared.Page.{Page}
-use Rattle.page.specs.declared.Checked.{Checked}
+
+-- what the check answers, and the page (zeros where refused)
+pub record Checked : Type 0 where
+  pub answer : Answer
+  pub sense : Sense
+  pub page : Page
 
 -- a page with none of its values read: what a refusal carries
 abbrev pub no_page : Page
@@ -57,3 +63,7 @@ checked p scope mode count =
     else when is_public p then public_page (lock_of p)
     else when sdk_of p then supplemental_page p scope mode count
     else set_page p
+
+-- the page where it is done, and otherwise the answer
+abbrev pub ruled : Checked → Result Page Answer
+ruled c = when is_done c.answer then Ok c.page else Err c.answer

@@ -1,9 +1,8 @@
 -- Document 02, request 6, in plain relations: what is wrong with a Set Data Encryption page, and at which byte i, in document 01's order (proofs/Faults:
 -- the rules of `every_rule` break there and nowhere else). Of the descriptors kad/specs/Pointing has the like.
-use Rattle.std.specs.Prelude.{ℕ, ◌+◌, ◌<◌, ◌≤◌, ◌≡◌, true, false, ◌⊎◌, List, length, drop}
+use Rattle.std.specs.Prelude.{ℕ, ◌+◌, ◌<◌, ◌≤◌, ◌≡◌, true, false, ◌⊎◌, List, length, drop, None}
 use Rattle.wire.specs.Numbers.{byte_at, word_at}
 use Rattle.kad.specs.Pointing.{ListFault}
-use Rattle.kad.specs.declared.Seen.TheVariants.{Nothing}
 use Rattle.page.specs.Fields.{scope_of, reserved_of, sdk_of}
 use Rattle.page.specs.Byte5.{RdmcFault, CeemFault}
 
@@ -43,7 +42,7 @@ SetFault p i =
 abbrev pub AfterFault : List ℕ → ℕ → Type 0
 AfterFault p i =
     let start = 20 + word_at p 18 in
-    ((byte_at p 6 ≡ 2) × ListFault (length (drop start p)) start (drop start p) Nothing i)
+    ((byte_at p 6 ≡ 2) × ListFault (length (drop start p)) start (drop start p) None i)
     ⊎ ((byte_at p 6 ≡ 2 → ⊥) × ((i ≡ start) × (start < length p)))
 
 -- "With SDK 1 (LOCAL or ALL)"

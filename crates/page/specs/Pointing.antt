@@ -1,12 +1,11 @@
 -- Document 02, request 6: "the lowest-numbered byte of the page at which a rule of 01 first breaks." All rules of a Set Data Encryption page in
 -- one list, in document 01's order, each with the byte that 02 has it point to. p is the page; the nexus's scope and its set's decryption mode
 -- are given. That the byte of answer 8 is the lowest of them is a theorem (`page-judged`).
-use Rattle.std.specs.Prelude.{ℕ, not, ◌&&◌, List, [], ◌∷◌, ◌++◌, leb, eqb, length, drop}
+use Rattle.std.specs.Prelude.{ℕ, not, ◌&&◌, List, [], ◌∷◌, ◌++◌, leb, eqb, length, drop, None}
 use Rattle.arrays.specs.Base.{when◌then◌else◌}
 use Rattle.wire.specs.Numbers.{byte_at}
 use Rattle.wire.specs.Rules.{Rule, rule, zero_rules}
 use Rattle.kad.specs.Rules.{list_rules}
-use Rattle.kad.specs.declared.Seen.TheVariants.{Nothing}
 use Rattle.parameters.specs.Codes.{all_scope, encrypt, mixed, algorithm, encrypts, decrypts}
 use Rattle.parameters.specs.Fields.{key_size}
 use Rattle.page.specs.Fields.{page_code, scope_of, is_public, reserved_of, ceem_of, rdmc_of, sdk_of, encryption_of, decryption_of, index_of, reserved_from, reserved_bytes, keyed_size, key_length_of, key_end}
@@ -44,7 +43,7 @@ every_set_rule p = rule 4 (eqb (reserved_of p) 0) ∷ (reserved p ++ set_values 
 unfoldable pub every_list_rule : List ℕ → List Rule
 every_list_rule p =
     let rest = drop (key_end p) p in
-    when encrypts (encryption_of p) then list_rules (length rest) (key_end p) rest Nothing else rule (key_end p) (leb (length p) (key_end p)) ∷ []
+    when encrypts (encryption_of p) then list_rules (length rest) (key_end p) rest None else rule (key_end p) (leb (length p) (key_end p)) ∷ []
 
 -- 01: "With SDK 1 (LOCAL or ALL) .. reserved parts, algorithm and formats as above; key length 32", the key as above; "no descriptors"
 abbrev pub supplemental_values : List ℕ → List Rule

@@ -1,7 +1,6 @@
 // The Set Data Encryption page: its bytes 4 and 5, what it gives, and what its check answers.
 #![tactic(auto)]
 
-use answer::{Answer, Sense};
 use parameters::Fields;
 
 // The Set page's byte 4.
@@ -30,14 +29,6 @@ pub struct Page {
     pub lock: bool,
     pub supplemental: bool,
     pub fields: Fields,
-}
-
-// What the check answers, and the page (zeros where refused).
-#[derive(Clone, Copy)]
-pub struct Checked {
-    pub answer: Answer,
-    pub sense: Sense,
-    pub page: Page,
 }
 
 impl Page {

@@ -2,25 +2,27 @@
 #![tactic(auto)]
 
 ghost use Rattle.std.specs.Prelude.{◌≡◌, ◌≤◌, length};
-ghost use Rattle.wire.specs.Numbers.{byte_at};
-ghost use Rattle.wire.specs.Rules.{breach};
+ghost use Rattle.pointing.specs.Faulted.{faulted};
 ghost use Rattle.page.specs.Fields.{set_byte4, set_byte5, key_from, fields_with, list_of};
 ghost use Rattle.page.specs.Rules.{open_rules, mode_rules, plain_rules, key_length, key_rules, set_rules, match_rules, supplemental_rules};
-ghost use Rattle.page.specs.Check.{refused_page, public_page, supplemental_page, set_page, checked};
+ghost use Rattle.page.specs.Check.{supplemental_page, set_page, checked, ruled};
 
-use answer::{Answer, Sense};
+use answer::Answer;
 use kad::{Kads, Listed};
-use page::{Checked, Page, SetByte4, SetByte5};
+use page::{Page, SetByte4, SetByte5};
 use parameters::{ALL, DISABLE, ENCRYPT, Fields, KEY_SIZE, MIXED, PUBLIC, SUPPLEMENTAL_MOST};
+use pointing_code::{check_rule, check_zeros};
+use wire_code::byte_at;
 
-const RESERVED_FROM: usize = 11;
+const RESERVED_FROM: u8 = 11;
 
-const RESERVED_END: usize = 18;
+const RESERVED_SIZE: u8 = 7;
 
 const KEY_FROM: usize = 20;
 
 const KEYED_SIZE: usize = KEY_FROM + KEY_SIZE;
 
+// A function and no `From`: the type stands in `page`, and functions on it here.
 fn set_byte_4(b: u8) -> SetByte4
     ensures { result ≡ set_byte4 b }
 {
@@ -44,70 +46,45 @@ fn set_byte_5(b: u8) -> SetByte5
     }
 }
 
-fn refuse(answer: Answer) -> Checked
-    ensures { result ≡ refused_page answer }
+// The page code and the scope.
+#[tactic(auto, using(pointing::proofs::Faulted::tried), unfolding(page::specs::Rules::open_rules))]
+fn check_open(page: &[u8]) -> Result<(), Answer>
+    ensures { result ≡ faulted (open_rules page.now) }
 {
-    Checked {
-        answer,
-        sense: answer_code::sense_of(answer),
-        page: Page::NONE,
-    }
+    check_rule(0, wire_code::word_at(page, 0) == 0x10)?;
+    check_rule(4, set_byte_4(byte_at(page, 4)).scope <= ALL)
 }
 
-// The page code and the scope: the page's length where no rule breaks.
-fn open_fault(page: &[u8], byte4: SetByte4) -> usize
-    requires { byte4 ≡ set_byte4 (byte_at page.now 4) }
-    ensures { result ≡ breach (open_rules page.now) (length page.now) }
+// Bytes 4 to 7 of a page with SDK 0.
+#[tactic(auto, using(pointing::proofs::Faulted::tried), unfolding(page::specs::Rules::mode_rules))]
+fn check_modes(page: &[u8]) -> Result<(), Answer>
+    ensures { result ≡ faulted (mode_rules page.now) }
 {
-    if wire_code::word_at(page, 0) != 0x10 {
-        return 0;
-    }
-    if ALL < byte4.scope {
-        return 4;
-    }
-    page.len()
+    let byte5 = set_byte_5(byte_at(page, 5));
+    let encryption = byte_at(page, 6);
+    let decryption = byte_at(page, 7);
+    check_rule(4, set_byte_4(byte_at(page, 4)).reserved == 0)?;
+    check_rule(
+        5,
+        !(parameters_code::is_encrypt(encryption) & (byte5.rdmc == 1)),
+    )?;
+    check_rule(
+        5,
+        !(((byte5.ceem == 2) | (byte5.ceem == 3)) & (decryption == DISABLE)),
+    )?;
+    check_rule(6, encryption <= ENCRYPT)?;
+    check_rule(7, decryption <= MIXED)
 }
 
-// Bytes 4 to 7 of a page with SDK 0: 8 where no rule breaks.
-fn mode_fault(page: &[u8], byte4: SetByte4, byte5: SetByte5) -> usize
-    requires { (key_from ≤ length page.now) × (byte4 ≡ set_byte4 (byte_at page.now 4)) × (byte5 ≡ set_byte5 (byte_at page.now 5)) }
-    ensures { result ≡ breach (mode_rules page.now) 8 }
+// Bytes 8 to 17.
+#[tactic(auto, using(pointing::proofs::Faulted::tried), unfolding(page::specs::Rules::plain_rules))]
+fn check_plain(page: &[u8]) -> Result<(), Answer>
+    ensures { result ≡ faulted (plain_rules page.now) }
 {
-    if byte4.reserved != 0 {
-        return 4;
-    }
-    let encryption = page[6];
-    if parameters_code::is_encrypt(encryption) & (byte5.rdmc == 1) {
-        return 5;
-    }
-    let decryption = page[7];
-    if ((byte5.ceem == 2) | (byte5.ceem == 3)) & (decryption == DISABLE) {
-        return 5;
-    }
-    if ENCRYPT < encryption {
-        return 6;
-    }
-    if MIXED < decryption {
-        return 7;
-    }
-    8
-}
-
-// Bytes 8 to 17: 18 where no rule breaks.
-fn plain_fault(page: &[u8]) -> usize
-    requires { key_from ≤ length page.now }
-    ensures { result ≡ breach (plain_rules page.now) 18 }
-{
-    if page[8] != 1 {
-        return 8;
-    }
-    if page[9] != 0 {
-        return 9;
-    }
-    if page[10] != 0 {
-        return 10;
-    }
-    RESERVED_FROM + wire_code::first_not_zero(&page[RESERVED_FROM..RESERVED_END])
+    check_rule(8, byte_at(page, 8) == 1)?;
+    check_rule(9, byte_at(page, 9) == 0)?;
+    check_rule(10, byte_at(page, 10) == 0)?;
+    check_zeros(page, RESERVED_FROM, RESERVED_SIZE)
 }
 
 fn key_length(encryption: u8, decryption: u8) -> usize
@@ -120,79 +97,47 @@ fn key_length(encryption: u8, decryption: u8) -> usize
     }
 }
 
-// The key length field and the key: the page's length where no rule breaks.
-fn key_fault(page: &[u8], wanted: usize) -> usize
-    requires { key_from ≤ length page.now }
-    ensures { result ≡ breach (key_rules page.now wanted) (length page.now) }
+// The key length field and the key.
+#[tactic(auto, using(pointing::proofs::Faulted::tried), unfolding(page::specs::Rules::key_rules))]
+fn check_key(page: &[u8], wanted: usize) -> Result<(), Answer>
+    ensures { result ≡ faulted (key_rules page.now wanted) }
 {
     let length = wire_code::word_at(page, 18);
-    if length != wanted {
-        return 18;
-    }
-    if page.len() < KEY_FROM + length {
-        return 18;
-    }
-    page.len()
+    check_rule(18, length == wanted)?;
+    check_rule(18, KEY_FROM + length <= page.len())
 }
 
-// A page with SDK 0 up to the key's end: the page's length where no rule breaks.
-fn set_fault(page: &[u8], byte4: SetByte4, byte5: SetByte5) -> usize
-    requires { (key_from ≤ length page.now) × (byte4 ≡ set_byte4 (byte_at page.now 4)) × (byte5 ≡ set_byte5 (byte_at page.now 5)) }
-    ensures { result ≡ breach (set_rules page.now) (length page.now) }
+// A page with SDK 0 up to the key's end.
+#[tactic(auto, using(pointing::proofs::Faulted::joined), unfolding(page::specs::Rules::set_rules))]
+fn check_set_rules(page: &[u8]) -> Result<(), Answer>
+    ensures { result ≡ faulted (set_rules page.now) }
 {
-    let modes = mode_fault(page, byte4, byte5);
-    if modes < 8 {
-        return modes;
-    }
-    let plain = plain_fault(page);
-    if plain < 18 {
-        return plain;
-    }
-    let wanted = key_length(page[6], page[7]);
-    key_fault(page, wanted)
+    check_modes(page)?;
+    check_plain(page)?;
+    check_key(page, key_length(byte_at(page, 6), byte_at(page, 7)))
 }
 
-// Bytes 4 to 7 of a page with SDK 1: 8 where no rule breaks.
-fn match_fault(page: &[u8], byte4: SetByte4, scope: u8, mode: u8) -> usize
-    requires { (key_from ≤ length page.now) × (byte4 ≡ set_byte4 (byte_at page.now 4)) }
-    ensures { result ≡ breach (match_rules page.now scope mode) 8 }
+// Bytes 4 to 7 of a page with SDK 1.
+#[tactic(auto, using(pointing::proofs::Faulted::tried), unfolding(page::specs::Rules::match_rules))]
+fn check_match(page: &[u8], scope: u8, mode: u8) -> Result<(), Answer>
+    ensures { result ≡ faulted (match_rules page.now scope mode) }
 {
-    if byte4.scope != scope {
-        return 4;
-    }
-    if byte4.reserved != 0 {
-        return 4;
-    }
-    if page[7] != mode {
-        return 7;
-    }
-    if !parameters_code::is_decrypt_or_mixed(mode) {
-        return 7;
-    }
-    8
+    let byte4 = set_byte_4(byte_at(page, 4));
+    check_rule(4, byte4.scope == scope)?;
+    check_rule(4, byte4.reserved == 0)?;
+    check_rule(7, byte_at(page, 7) == mode)?;
+    check_rule(7, parameters_code::is_decrypt_or_mixed(mode))
 }
 
-// A page with SDK 1: the page's length where no rule breaks.
-fn supplemental_fault(page: &[u8], byte4: SetByte4, scope: u8, mode: u8) -> usize
-    requires { (key_from ≤ length page.now) × (byte4 ≡ set_byte4 (byte_at page.now 4)) }
-    ensures { result ≡ breach (supplemental_rules page.now scope mode) (length page.now) }
+// A page with SDK 1.
+#[tactic(auto, using(pointing::proofs::Faulted::joined), unfolding(page::specs::Rules::supplemental_rules, page::specs::Rules::end_rules))]
+fn check_supplemental_rules(page: &[u8], scope: u8, mode: u8) -> Result<(), Answer>
+    ensures { result ≡ faulted (supplemental_rules page.now scope mode) }
 {
-    let matched = match_fault(page, byte4, scope, mode);
-    if matched < 8 {
-        return matched;
-    }
-    let plain = plain_fault(page);
-    if plain < 18 {
-        return plain;
-    }
-    let key = key_fault(page, KEY_SIZE);
-    if key < page.len() {
-        return key;
-    }
-    if KEYED_SIZE < page.len() {
-        return KEYED_SIZE;
-    }
-    page.len()
+    check_match(page, scope, mode)?;
+    check_plain(page)?;
+    check_key(page, KEY_SIZE)?;
+    check_rule(52, page.len() <= KEYED_SIZE)
 }
 
 // Without ENCRYPT the list is empty.
@@ -209,15 +154,15 @@ fn list_after_key(encryption: u8, rest: &[u8]) -> Listed
 }
 
 // The fields that make a set, where the key and the key-associated data are read already.
-fn set_fields(page: &[u8], byte5: SetByte5, key: [u8; 32], kads: Kads) -> Fields
-    requires { (key_from ≤ length page.now) × (byte5 ≡ set_byte5 (byte_at page.now 5)) }
+fn set_fields(page: &[u8], key: [u8; 32], kads: Kads) -> Fields
     ensures { result ≡ fields_with page.now key kads }
 {
-    let encryption = page[6];
+    let encryption = byte_at(page, 6);
+    let byte5 = set_byte_5(byte_at(page, 5));
     Fields {
         encryption,
-        decryption: page[7],
-        index: page[8],
+        decryption: byte_at(page, 7),
+        index: byte_at(page, 8),
         ceem: byte5.ceem,
         rdmd: parameters_code::is_encrypt(encryption) & (byte5.rdmc == 3),
         ckod: byte5.ckod,
@@ -229,94 +174,63 @@ fn set_fields(page: &[u8], byte5: SetByte5, key: [u8; 32], kads: Kads) -> Fields
 }
 
 // A page that is LOCAL or ALL with SDK 0.
-fn check_set(page: &[u8], byte4: SetByte4, byte5: SetByte5) -> Checked
-    requires { (key_from ≤ length page.now) × (byte4 ≡ set_byte4 (byte_at page.now 4)) × (byte5 ≡ set_byte5 (byte_at page.now 5)) }
-    ensures { result ≡ set_page page.now }
+fn read_set(page: &[u8]) -> Result<Page, Answer>
+    requires { key_from ≤ length page.now }
+    ensures { result ≡ ruled (set_page page.now) }
 {
-    let fault = set_fault(page, byte4, byte5);
-    if fault < page.len() {
-        return refuse(Answer::FieldWrong(fault as u16));
-    }
+    check_set_rules(page)?;
     let start = KEY_FROM + wire_code::word_at(page, 18);
-    let key = wire_code::padded_32(&page[KEY_FROM..start]);
     let list = list_after_key(page[6], &page[start..]);
     let end = start + list.good;
-    if end < page.len() {
-        return refuse(Answer::FieldWrong(end as u16));
-    }
-    let kads = list.kads;
-    let fields = set_fields(page, byte5, key, kads);
-    Checked {
-        answer: Answer::Done,
-        sense: Sense::NONE,
-        page: Page {
-            scope: byte4.scope,
-            lock: byte4.lock,
-            supplemental: false,
-            fields,
-        },
-    }
+    check_rule(end as u16, page.len() <= end)?;
+    let key = wire_code::padded(&page[KEY_FROM..start]);
+    let byte4 = set_byte_4(page[4]);
+    Ok(Page {
+        scope: byte4.scope,
+        lock: byte4.lock,
+        supplemental: false,
+        fields: set_fields(page, key, list.kads),
+    })
 }
 
 // A page that is LOCAL or ALL with SDK 1.
-fn check_supplemental(page: &[u8], byte4: SetByte4, scope: u8, mode: u8, count: u8) -> Checked
-    requires { (key_from ≤ length page.now) × (byte4 ≡ set_byte4 (byte_at page.now 4)) }
-    ensures { result ≡ supplemental_page page.now scope mode count }
+fn read_supplemental(page: &[u8], scope: u8, mode: u8, count: u8) -> Result<Page, Answer>
+    requires { key_from ≤ length page.now }
+    ensures { result ≡ ruled (supplemental_page page.now scope mode count) }
 {
-    let fault = supplemental_fault(page, byte4, scope, mode);
-    if fault < page.len() {
-        return refuse(Answer::FieldWrong(fault as u16));
-    }
+    check_supplemental_rules(page, scope, mode)?;
     if SUPPLEMENTAL_MOST <= count {
-        return refuse(Answer::FifthSupplementalKey);
+        return Err(Answer::FifthSupplementalKey);
     }
     let start = KEY_FROM + wire_code::word_at(page, 18);
-    let key = wire_code::padded_32(&page[KEY_FROM..start]);
     let mut fields = Fields::NONE;
-    fields.key = key;
-    Checked {
-        answer: Answer::Done,
-        sense: Sense::NONE,
-        page: Page {
-            scope: byte4.scope,
-            lock: false,
-            supplemental: true,
-            fields,
-        },
-    }
-}
-
-// A PUBLIC page: only SCOPE and LOCK are read.
-fn check_public(lock: bool) -> Checked
-    ensures { result ≡ public_page lock }
-{
-    let mut read = Page::NONE;
-    read.lock = lock;
-    Checked {
-        answer: Answer::Done,
-        sense: Sense::NONE,
-        page: read,
-    }
+    fields.key = wire_code::padded(&page[KEY_FROM..start]);
+    Ok(Page {
+        scope: set_byte_4(page[4]).scope,
+        lock: false,
+        supplemental: true,
+        fields,
+    })
 }
 
 // The whole check, where the nexus's scope, its set's decryption mode and its count of supplemental keys are given.
-pub fn check(page: &[u8], scope: u8, mode: u8, count: u8) -> Checked
-    ensures { result ≡ checked page.now scope mode count }
+pub fn check(page: &[u8], scope: u8, mode: u8, count: u8) -> Result<Page, Answer>
+    ensures { result ≡ ruled (checked page.now scope mode count) }
 {
     if wire_code::is_length_wrong(page, KEY_FROM) {
-        return refuse(Answer::PageLengthWrong);
+        return Err(Answer::PageLengthWrong);
     }
+    check_open(page)?;
     let byte4 = set_byte_4(page[4]);
-    let fault = open_fault(page, byte4);
-    if fault < page.len() {
-        return refuse(Answer::FieldWrong(fault as u16));
-    }
     if byte4.scope == PUBLIC {
-        return check_public(byte4.lock);
+        // Only SCOPE and LOCK are read.
+        return Ok(Page {
+            lock: byte4.lock,
+            ..Page::NONE
+        });
     }
-    let byte5 = set_byte_5(page[5]);
-    if byte5.sdk {
-        return check_supplemental(page, byte4, scope, mode, count);
+    if set_byte_5(page[5]).sdk {
+        return read_supplemental(page, scope, mode, count);
     }
-    check_set(page, byte4, byte5)
+    read_set(page)
 }

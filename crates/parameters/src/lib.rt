@@ -3,6 +3,7 @@
 
 use kad::Kads;
 
+// Codes, not enums: a device record's bytes may hold any number here, and `field_codes` and `set_codes` say which records are formed.
 pub const PUBLIC: u8 = 0;
 
 pub const LOCAL: u8 = 1;
@@ -62,7 +63,7 @@ impl Fields {
     };
 }
 
-// Up to four supplemental keys of 32 bytes, one after another; bytes past the count are zero.
+// Up to four supplemental keys of 32 bytes, one after another; bytes past the count, which stands beside since memory is fixed, are zero.
 #[derive(Clone, Copy)]
 pub struct Supplemental {
     pub count: u8,

@@ -1,5 +1,5 @@
 -- The status with which a program ends, by what failed.
-use Rattle.std.specs.Prelude.{◌≡◌, ◌≢◌}
+use Rattle.std.specs.Prelude.{◌≡◌, ◌≢◌, ⊤}
 use Rattle.std.specs.IoError.{error_kind}
 use Rattle.std.specs.Process.{exit_status}
 use Rattle.std.specs.declared.process.ExitCode.{ExitCode}
@@ -16,3 +16,19 @@ abbrev pub Ends : Failure → ExitCode → Type 0
 Ends (Input e) code = exit_status code ≡ 0
 Ends (Output e) code = EndsWriting e code
 Ends (Message e) code = EndsWriting e code
+
+-- which of the three failed
+abbrev pub IsInput : Failure → Type 0
+IsInput (Input e) = ⊤
+IsInput (Output e) = ⊥
+IsInput (Message e) = ⊥
+
+abbrev pub IsOutput : Failure → Type 0
+IsOutput (Input e) = ⊥
+IsOutput (Output e) = ⊤
+IsOutput (Message e) = ⊥
+
+abbrev pub IsMessage : Failure → Type 0
+IsMessage (Input e) = ⊥
+IsMessage (Output e) = ⊥
+IsMessage (Message e) = ⊤

@@ -1,5 +1,6 @@
 -- The place of a LOCAL page is the one that document 01's sentence names, of every record and nexus.
 -- Assumes nothing.
+use Rattle.std.specs.Prelude.{ℕ, Option, Some, None}
 use Prim.Native.Nat.{ℕ, ◌<◌}
 use mathlib.Core.Path.{◌≡◌, refl, ◌∙◌}
 use mathlib.Core.Bool.{Bool, true, not}
@@ -12,24 +13,22 @@ use Rattle.arrays.proofs.Base.{cases, not-zero, and_both, if-true, if-false}
 use Rattle.arrays.proofs.Laws.{find-by, find-lowest}
 use Rattle.device.specs.Record.{State, no_set, set_at, nexus_at}
 use Rattle.device.specs.Selecting.{owns, owned_place}
-use Rattle.device.specs.declared.Found.{Found}
-use Rattle.device.specs.declared.Found.TheVariants.{At, Nowhere}
 use Rattle.device.specs.declared.Set.{Set}
 use Rattle.places.specs.Actions.{own_place, empty_local, unlocked_local, room}
-use Rattle.places.specs.Finding.{Present, Empty, Unlocked, Lowest, None, RoomDue}
+use Rattle.places.specs.Finding.{Present, Empty, Unlocked, Lowest, None as NoneOf, RoomDue}
 
 -- a test that tells of each place whether something holds of it finds the lowest place of which it holds
 module _ (s : State) (p : ℕ → Set → Bool) (P : ℕ → Type 0)
     (told : (place : ℕ) → place < length s.sets → p place (set_at s place) ≡ true → P place)
     (tells : (place : ℕ) → P place → (place < length s.sets) × (p place (set_at s place) ≡ true)) where
-  lowest-is-found : (place : ℕ) → Lowest P place → find At Nowhere p s.sets ≡ At place
+  lowest-is-found : (place : ℕ) → Lowest P place → find Some None p s.sets ≡ Some place
   lowest-is-found place l =
       let h = tells place l.holds in
-      find-lowest At Nowhere p no_set s.sets place h.0 h.1
+      find-lowest Some None p no_set s.sets place h.0 h.1
       (λ lower g. cases (p lower (set_at s lower)) (λ t. absurd (l.first lower g (told lower (omega (arith, g, h.0)) t))) (λ f. f))
 
-  none-is-found : None P → find At Nowhere p s.sets ≡ Nowhere
-  none-is-found none = find-by At Nowhere p no_set (λ (found : Found). found ≡ Nowhere) s.sets (λ place h t. absurd (none place (told place h t))) refl
+  none-is-found : NoneOf P → find Some None p s.sets ≡ None
+  none-is-found none = find-by Some None p no_set (λ (found : Option ℕ). found ≡ None) s.sets (λ place h t. absurd (none place (told place h t))) refl
 
 module _ (s : State) where
   empty-told : (place : ℕ) → place < length s.sets → empty_local place (set_at s place) ≡ true → Empty s place
@@ -51,13 +50,13 @@ module _ (s : State) where
     present-tells : (place : ℕ) → Present s n place → (place < length s.sets) × (owns n (set_at s place) ≡ true)
     present-tells place o = (o.within, simp (eq-eqb _ 1 o.set_local, eq-eqb _ n o.owned))
 
-    own-found : (place : ℕ) → Lowest (Present s n) place → own_place s n ≡ At place
+    own-found : (place : ℕ) → Lowest (Present s n) place → own_place s n ≡ Some place
     unfolding own_place owned_place
     own-found place l =
         let local = l.holds.nexus_local in
         if-true _ _ _ (eq-eqb _ 1 local) ∙ lowest-is-found s (λ k. owns n) (Present s n) (present-told local) present-tells place l
 
-    own-none : None (Present s n) → own_place s n ≡ Nowhere
+    own-none : NoneOf (Present s n) → own_place s n ≡ None
     unfolding own_place owned_place
     own-none none =
         cases (eqb (nexus_at s n).scope 1)

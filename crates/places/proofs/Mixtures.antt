@@ -1,5 +1,6 @@
 -- Document 02, request 4, by computing: each of the four places for LOCAL sets empty or taken, its owner locked or not, in all 2 ^ 8
 -- mixtures.
+use Rattle.std.specs.Prelude.{Some, None}
 use Prim.Native.Nat.{ℕ, ◌+◌, ◌-◌, ◌*◌, ◌/◌, ◌%◌, ◌^◌}
 use mathlib.Core.Path.{◌≡◌, refl}
 use mathlib.Core.Bool.{Bool, false, ◌&&◌}
@@ -13,7 +14,6 @@ use Rattle.parameters.specs.Codes.{public_scope, local_scope}
 use Rattle.parameters.specs.Fields.{no_fields}
 use Rattle.device.specs.Record.{State, power_on, established}
 use Rattle.device.specs.Updates.{with_lock, with_sets, with_nexuses}
-use Rattle.device.specs.declared.Found.TheVariants.{At, Nowhere}
 use Rattle.places.specs.Actions.{empty_local, unlocked_local, free_at, evicting_at, is_no_room}
 use Rattle.places.specs.Words.{local_words, room_by}
 use Rattle.places.specs.declared.Room.{Room}
@@ -39,7 +39,7 @@ abbrev by_words : State → Room
 by_words s = room_by (local_words s)
 
 abbrev by_find : State → Room
-by_find s = free_at (find At Nowhere empty_local s.sets) (evicting_at (find At Nowhere (unlocked_local s) s.sets))
+by_find s = free_at (find Some None empty_local s.sets) (evicting_at (find Some None (unlocked_local s) s.sets))
 
 -- the place is free to take, or it is first released
 abbrev is_free : ℕ → Room → Bool

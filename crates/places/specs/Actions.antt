@@ -1,6 +1,6 @@
 -- Document 01, "Establishing, releasing, selecting", in its order. Selecting stands in crate device.
 -- No definition here looks at an instance number but to give one.
-use Rattle.std.specs.Prelude.{ℕ, ◌+◌, ◌*◌, ◌%◌, ◌^◌, Bool, true, false, not, ◌&&◌, List, [], ◌∷◌, ◌++◌, leb, eqb, set}
+use Rattle.std.specs.Prelude.{ℕ, ◌+◌, ◌*◌, ◌%◌, ◌^◌, Bool, true, false, not, ◌&&◌, List, [], ◌∷◌, ◌++◌, leb, eqb, set, Option, Some, None}
 use Rattle.std.proofs.lemmas.List.Edits.{sets}
 use Rattle.arrays.specs.Base.{when◌then◌else◌}
 use Rattle.arrays.specs.Arrays.{map_from, fold_from, find}
@@ -13,8 +13,6 @@ use Rattle.device.specs.Selecting.{owns, owned_place, selected, selected_set}
 use Rattle.parameters.specs.declared.Supplemental.{Supplemental}
 use Rattle.device.specs.declared.Set.{Set}
 use Rattle.device.specs.declared.Nexus.{Nexus}
-use Rattle.device.specs.declared.Found.{Found}
-use Rattle.device.specs.declared.Found.TheVariants.{At, Nowhere}
 use Rattle.device.specs.Updates.{with_scope, with_lock, with_saved, with_last_local, numbered, with_supplemental, with_counter, with_sets, with_nexuses, at_place, at_nexus}
 use Rattle.places.specs.declared.Event.{Event}
 use Rattle.places.specs.declared.Event.TheVariants.{Demount, NexusLoss, DeviceLoss, Preempt, Microcode, VendorRelease}
@@ -65,12 +63,12 @@ unfoldable pub releases : (ℕ → Set → Bool) → List Set → List Action
 releases picked = fold_from (λ place set rest. when due picked place set then release place ∷ rest else rest) [] 0
 
 -- the nexus's own LOCAL place, if any
-unfoldable pub own_place : State → ℕ → Found
-own_place s n = when eqb (nexus_at s n).scope local_scope then owned_place s.sets n else Nowhere
+unfoldable pub own_place : State → ℕ → Option ℕ
+own_place s n = when eqb (nexus_at s n).scope local_scope then owned_place s.sets n else None
 
-abbrev pub release_found : Found → List Action
-release_found (At place) = release place ∷ []
-release_found Nowhere = []
+abbrev pub release_found : Option ℕ → List Action
+release_found (Some place) = release place ∷ []
+release_found None = []
 
 abbrev pub release_own : State → ℕ → List Action
 release_own s n = release_found (own_place s n)
@@ -82,20 +80,20 @@ empty_local place set = not (eqb place 0) && empty set
 abbrev pub unlocked_local : State → ℕ → Set → Bool
 unlocked_local s place set = not (eqb place 0) && not (nexus_at s set.owner).lock
 
-abbrev pub free_at : Found → Room → Room
-free_at (At place) other = Free place
-free_at Nowhere other = other
+abbrev pub free_at : Option ℕ → Room → Room
+free_at (Some place) other = Free place
+free_at None other = other
 
-abbrev pub evicting_at : Found → Room
-evicting_at (At place) = Evicting place
-evicting_at Nowhere = NoRoom
+abbrev pub evicting_at : Option ℕ → Room
+evicting_at (Some place) = Evicting place
+evicting_at None = NoRoom
 
 -- "its present place, else the lowest empty one, else the lowest whose owner has lock 0, which is first released; else answer 10"
 unfoldable pub room : State → ℕ → Room
 room s n =
     free_at (own_place s n)
-    (free_at (find At Nowhere empty_local s.sets)
-    (evicting_at (find At Nowhere (unlocked_local s) s.sets)))
+    (free_at (find Some None empty_local s.sets)
+    (evicting_at (find Some None (unlocked_local s) s.sets)))
 
 -- there is none
 abbrev pub is_no_room : Room → Bool

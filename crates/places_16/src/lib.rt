@@ -9,13 +9,14 @@ ghost use Rattle.places_16.specs.Taking.{room_asked, actions_in, taken_in};
 ghost use Rattle.places.specs.Actions.{shared_actions, release, establish, freed, act, acts, spared, releases, own_place, release_own, room, establish_in, sender_after, supplemented, released_by, release_step};
 ghost use Rattle.places.specs.Words.{local_words};
 
-use device::{Found, Nexus, Set};
+use device::{Nexus, Set};
 use device_16::Device;
 use page::Page;
 use parameters::{ALL, Fields, LOCAL};
 use places::{Event, LocalWords, Room};
 use sizes_16::{NEXUSES, PLACES};
 
+// By index: of iter_mut with enumerate the library doesn't promise what is written.
 fn free_all(d: Device, place: usize) -> [Nexus; NEXUSES]
     ensures { result ≡ map_from (freed (state d) place) 0 d.nexuses }
 {
@@ -33,14 +34,13 @@ fn act(d: Device, place: usize, contents: Set) -> Device
     ensures { result ≡ device (act (state d) (record { place = place; contents = contents })) }
 {
     let number = places_code::draw(d.counter);
-    let mut set = contents;
-    set.number = number;
-    let mut out = d;
-    let nexuses = free_all(out, place);
-    out.counter = number;
-    out.nexuses = nexuses;
+    let mut out = Device {
+        counter: number,
+        nexuses: free_all(d, place),
+        ..d
+    };
     if place < PLACES {
-        out.sets[place] = set;
+        out.sets[place] = Set { number, ..contents };
     }
     out
 }
@@ -58,23 +58,22 @@ fn establish(d: Device, place: usize, owner: u8, scope: u8, fields: Fields) -> D
 }
 
 // The nexus's own LOCAL place, if any.
-pub fn own_place(d: Device, n: u8) -> Found
+pub fn own_place(d: Device, n: u8) -> Option<usize>
     ensures { result ≡ own_place (state d) n }
 {
     let nexus = device_16::nexus_at(d, n as usize);
     if nexus.scope != LOCAL {
-        return Found::Nowhere;
+        return None;
     }
-    let sets = d.sets;
-    device_16::owned_place(sets, n as usize)
+    device_16::owned_place(d.sets, n as usize)
 }
 
 fn release_own(d: Device, n: u8) -> Device
     ensures { result ≡ device (acts (state d) (release_own (state d) n)) }
 {
     match own_place(d, n) {
-        Found::At(place) => release(d, place),
-        Found::Nowhere => d,
+        Some(place) => release(d, place),
+        None => d,
     }
 }
 
@@ -87,9 +86,7 @@ fn local_words(d: Device) -> LocalWords
     let nexuses = d.nexuses;
     let mut empty: u32 = 0;
     let mut unlocked: u32 = 0;
-    let mut place = PLACES;
-    while 1 < place {
-        place -= 1;
+    for place in (1..PLACES).rev() {
         let set = sets[place];
         let owner = set.owner as usize;
         let locked = if owner < NEXUSES {
@@ -111,8 +108,8 @@ pub fn room_for(d: Device, n: u8) -> Room
     ensures { result ≡ room (state d) n }
 {
     match own_place(d, n) {
-        Found::At(place) => Room::Free(place),
-        Found::Nowhere => places_code::room_by(local_words(d)),
+        Some(place) => Room::Free(place),
+        None => places_code::room_by(local_words(d)),
     }
 }
 
@@ -145,8 +142,7 @@ fn act_shared(d: Device, n: u8, page: Page) -> Device
     if page.scope != ALL {
         return released;
     }
-    let fields = page.fields;
-    establish(released, 0, n, ALL, fields)
+    establish(released, 0, n, ALL, page.fields)
 }
 
 // The sender after its page, in place.
@@ -157,30 +153,28 @@ fn sender_after(d: Device, n: u8, page: Page) -> Device
     if NEXUSES <= at {
         return d;
     }
-    let sets = d.sets;
     let mut nexuses = d.nexuses;
     let nexus = nexuses[at];
-    let mut scoped = nexus;
-    scoped.scope = page.scope;
-    let place = device_16::place_of(scoped, at, sets);
-    let numbers = device_16::numbers(sets);
+    let scoped = Nexus {
+        scope: page.scope,
+        ..nexus
+    };
+    let place = device_16::place_of(scoped, at, d.sets);
+    let numbers = device_16::numbers(d.sets);
     nexuses[at] = places_code::nexus_after(nexus, page, numbers[place]);
-    let mut out = d;
-    out.nexuses = nexuses;
-    out
+    Device { nexuses, ..d }
 }
 
 fn supplement(d: Device, n: u8, page: Page) -> Device
     ensures { result ≡ device (supplemented (state d) n page) }
 {
     let place = device_16::selected(d, n as usize);
-    let key = page.fields.key;
-    let mut set = d.sets[place];
-    let keys = set.supplemental;
-    let more = places_code::append(keys, key);
-    set.supplemental = more;
+    let set = d.sets[place];
     let mut out = d;
-    out.sets[place] = set;
+    out.sets[place] = Set {
+        supplemental: places_code::append(set.supplemental, page.fields.key),
+        ..set
+    };
     out
 }
 
@@ -189,8 +183,7 @@ fn act_page(d: Device, n: u8, page: Page, room: Room) -> Device
     ensures { result ≡ device (acts (state d) (actions_in (state d) n page room)) }
 {
     if page.scope == LOCAL {
-        let fields = page.fields;
-        return establish_in(d, n, fields, room);
+        return establish_in(d, n, page.fields, room);
     }
     act_shared(d, n, page)
 }
@@ -210,9 +203,8 @@ pub fn none_due(sets: [Set; PLACES], event: Event) -> bool
     ensures { result ≡ each (spared (released_by event)) sets }
 {
     let mut none = true;
-    for place in 0..PLACES {
-        let set = sets[place];
-        none = none & !places_code::is_due(event, place, set);
+    for (place, set) in sets.iter().enumerate() {
+        none = none & !places_code::is_due(event, place, *set);
     }
     none
 }
@@ -221,8 +213,7 @@ fn release_step(d: Device, event: Event, place: usize) -> Device
     requires { place < place_count }
     ensures { result ≡ device (release_step (released_by event) place (state d)) }
 {
-    let set = d.sets[place];
-    if places_code::is_due(event, place, set) {
+    if places_code::is_due(event, place, d.sets[place]) {
         return release(d, place);
     }
     d
@@ -233,6 +224,7 @@ pub fn release_by(d: Device, event: Event) -> Device
     ensures { result ≡ device (acts (state d) (releases (released_by event) d.sets)) }
 {
     let mut out = d;
+    // A release changes the sets that a borrow would hold: each step reads its place anew.
     for place in 0..PLACES {
         out = release_step(out, event, place);
     }

@@ -8,9 +8,9 @@ ghost use Rattle.device.specs.Updates.{with_scope};
 ghost use Rattle.places.specs.Actions.{drawn, due, free_at, evicting_at, is_no_room, needs_place, nexus_after, appended, released_by};
 ghost use Rattle.places.specs.Words.{lowest_bit, room_by};
 
-use device::{Found, Nexus, Set};
+use device::{Nexus, Set};
 use page::Page;
-use parameters::{KEY_SIZE, LOCAL, SUPPLEMENTAL_MOST, Supplemental};
+use parameters::{KEY_SIZE, LOCAL, PUBLIC, SUPPLEMENTAL_MOST, Supplemental};
 use places::{Event, LocalWords, Room};
 
 // The next number: one counter, 32 bits, that wraps.
@@ -24,39 +24,41 @@ pub fn draw(counter: u32) -> u32
 pub fn free(nexus: Nexus, held: bool) -> Nexus
     ensures { result ≡ when held then with_scope public_scope nexus else nexus }
 {
-    let mut out = nexus;
     if held {
-        out.scope = 0;
+        return Nexus {
+            scope: PUBLIC,
+            ..nexus
+        };
     }
-    out
+    nexus
 }
 
-fn free_at(found: Found, other: Room) -> Room
+fn free_at(found: Option<usize>, other: Room) -> Room
     ensures { result ≡ free_at found other }
 {
     match found {
-        Found::At(place) => Room::Free(place),
-        Found::Nowhere => other,
+        Some(place) => Room::Free(place),
+        None => other,
     }
 }
 
-fn evicting_at(found: Found) -> Room
+fn evicting_at(found: Option<usize>) -> Room
     ensures { result ≡ evicting_at found }
 {
     match found {
-        Found::At(place) => Room::Evicting(place),
-        Found::Nowhere => Room::NoRoom,
+        Some(place) => Room::Evicting(place),
+        None => Room::NoRoom,
     }
 }
 
 // The place of a word's lowest set bit.
-fn lowest_bit(word: u32) -> Found
+fn lowest_bit(word: u32) -> Option<usize>
     ensures { result ≡ lowest_bit word }
 {
     if word == 0 {
-        return Found::Nowhere;
+        return None;
     }
-    Found::At(u32::trailing_zeros(word) as usize)
+    Some(u32::trailing_zeros(word) as usize)
 }
 
 // The place of a LOCAL set by the words: the lowest empty one, else the lowest whose owner has lock 0, which is first released.
@@ -72,11 +74,7 @@ pub fn room_by(words: LocalWords) -> Room
 pub fn is_no_room(room: Room) -> bool
     ensures { result ≡ is_no_room room }
 {
-    match room {
-        Room::Free(_) => false,
-        Room::Evicting(_) => false,
-        Room::NoRoom => true,
-    }
+    matches!(room, Room::NoRoom)
 }
 
 // A page that needs a place for its LOCAL set.
@@ -97,14 +95,13 @@ fn number_if(saves: bool, number: u32, stays: u32) -> u32
 pub fn nexus_after(nexus: Nexus, page: Page, number: u32) -> Nexus
     ensures { result ≡ nexus_after page number nexus }
 {
-    let saved = number_if(page.lock, number, nexus.saved);
-    let last_local = number_if(page.scope == LOCAL, number, nexus.last_local);
-    let mut out = nexus;
-    out.scope = page.scope;
-    out.lock = page.lock;
-    out.saved = saved;
-    out.last_local = last_local;
-    out
+    Nexus {
+        scope: page.scope,
+        lock: page.lock,
+        saved: number_if(page.lock, number, nexus.saved),
+        last_local: number_if(page.scope == LOCAL, number, nexus.last_local),
+        ..nexus
+    }
 }
 
 // One supplemental key more, where there is room for it.

@@ -11,24 +11,26 @@ pub use Rattle.wire_code.proofs.Settled.{wide-settles as wire-code-wide-settles}
 pub use Rattle.wire_code.proofs.Settled.{eight-settles as wire-code-eight-settles}
 pub use Rattle.wire_code.proofs.Settled.{put-settles as wire-code-put-settles}
 pub use Rattle.wire_code.proofs.Settled.{show-settles as wire-code-show-settles}
-pub use Rattle.wire_code.proofs.Settled.{padded-32-settles as wire-code-padded-32-settles}
-pub use Rattle.wire_code.proofs.Settled.{padded-12-settles as wire-code-padded-12-settles}
-pub use Rattle.wire_code.proofs.Settled.{first-not-zero-settles as wire-code-first-not-zero-settles}
+pub use Rattle.wire_code.proofs.Settled.{padded-settles as wire-code-padded-settles}
 pub use Rattle.wire_code.proofs.Settled.{all-zero-settles as wire-code-all-zero-settles}
 pub use Rattle.wire_code.proofs.Settled.{zero-from-settles as wire-code-zero-from-settles}
 pub use Rattle.wire_code.proofs.Settled.{is-length-wrong-settles as wire-code-is-length-wrong-settles}
 pub use Rattle.wire_code.proofs.Settled.{number-at-settles as wire-code-number-at-settles}
-pub use Rattle.wire_code.proofs.Settled.{is-same-settles as wire-code-is-same-settles}
 pub use Rattle.wire_code.proofs.Settled.{part-settles as wire-code-part-settles}
+pub use Rattle.wire_code.proofs.Settled.{rest-settles as wire-code-rest-settles}
 -- crate text_code
 pub use Rattle.text_code.proofs.Settled.{put-decimal-settles as text-code-put-decimal-settles}
 pub use Rattle.text_code.proofs.Settled.{read-decimal-settles as text-code-read-decimal-settles}
-pub use Rattle.text_code.proofs.Settled.{and-words-settles as text-code-and-words-settles}
-pub use Rattle.text_code.proofs.Settled.{and-number-settles as text-code-and-number-settles}
+pub use Rattle.text_code.proofs.Settled.{put-words-settles as text-code-put-words-settles}
+pub use Rattle.text_code.proofs.Settled.{put-number-settles as text-code-put-number-settles}
+pub use Rattle.text_code.proofs.Settled.{text-settles as text-code-text-settles}
 -- crate answer_code
 pub use Rattle.answer_code.proofs.Settled.{row-of-settles as answer-code-row-of-settles}
 pub use Rattle.answer_code.proofs.Settled.{sense-of-settles as answer-code-sense-of-settles}
 pub use Rattle.answer_code.proofs.Settled.{is-done-settles as answer-code-is-done-settles}
+-- crate pointing_code
+pub use Rattle.pointing_code.proofs.Settled.{check-rule-settles as pointing-code-check-rule-settles}
+pub use Rattle.pointing_code.proofs.Settled.{check-zeros-settles as pointing-code-check-zeros-settles}
 -- crate kad_code
 pub use Rattle.kad_code.proofs.Settled.{lengths-good-settles as kad-code-lengths-good-settles}
 pub use Rattle.kad_code.proofs.Settled.{tails-good-settles as kad-code-tails-good-settles}
@@ -48,7 +50,6 @@ pub use Rattle.page_code.proofs.Settled.{check-settles as page-code-check-settle
 pub use Rattle.device.proofs.Settled.{established-settles as device-established-settles}
 -- crate device_code
 pub use Rattle.device_code.proofs.Settled.{is-owned-settles as device-code-is-owned-settles}
-pub use Rattle.device_code.proofs.Settled.{or-else-settles as device-code-or-else-settles}
 pub use Rattle.device_code.proofs.Settled.{used-fits-settles as device-code-used-fits-settles}
 pub use Rattle.device_code.proofs.Settled.{empty-is-zero-settles as device-code-empty-is-zero-settles}
 -- crate words_code
@@ -138,7 +139,6 @@ pub use Rattle.claim_code.proofs.Settled.{row-line-settles as claim-code-row-lin
 pub use Rattle.claim_code.proofs.Settled.{total-line-settles as claim-code-total-line-settles}
 -- crate why_code
 pub use Rattle.why_code.proofs.Settled.{deed-of-settles as why-code-deed-of-settles}
-pub use Rattle.why_code.proofs.Settled.{either_settles as why-code-either-settles}
 pub use Rattle.why_code.proofs.Settled.{note-first-settles as why-code-note-first-settles}
 pub use Rattle.why_code.proofs.Settled.{touch-for-settles as why-code-touch-for-settles}
 pub use Rattle.why_code.proofs.Settled.{mode-for-settles as why-code-mode-for-settles}

@@ -26,7 +26,8 @@ use Rattle.wire.proofs.Bytes.{Below, below, below-drop, flag-low, four-again, ta
 use Rattle.wire.proofs.Parts.{length-parts, each_read, each_part, each-there, parts-pass, joined-read, section-on, each_all, each_same}
 use Rattle.record.proofs.Sizes.{set-length, nexus-length, sets_part, nexuses_part, words_part, from-nexuses, record-length}
 use Rattle.record.proofs.Again.{set-again, nexus-again}
-use Rattle.record.proofs.RoundTrip.{same_self, written-of-read}
+use Rattle.wire.proofs.Searches.{same_self}
+use Rattle.record.proofs.RoundTrip.{written-of-read}
 
 -- ---- what bytes give fits
 

@@ -22,20 +22,10 @@ use Rattle.wire.specs.Parts.{parts}
 use Rattle.record.specs.Bytes.{set_size, nexus_size, word_size, set_bytes, nexus_bytes, record_bytes}
 use Rattle.record.specs.Reading.{set_read, nexus_read, record_read}
 use Rattle.record.specs.Good.{good_bytes, record_taken, SetFits, NexusFits, Fits}
+use Rattle.wire.proofs.Searches.{same_self, same_true}
 use Rattle.wire.proofs.Parts.{GivenBack, read-joined, each_same}
 use Rattle.record.proofs.Sizes.{set-length, nexus-length, word-length, sets_part, nexuses_part, words_part, from-nexuses, from-words}
 use Rattle.record.proofs.Back.{set_back, nexus-back}
-
--- ---- the same bytes
-
-pub same_self : (l : List ℕ) → same_bytes l l ≡ true
-same_self l = both (eqb (length l) (length l)) _ (eq-eqb (length l) (length l) refl) (each_of (λ i x. eqb x (byte_at l i)) 0 l (λ k h. eq-eqb (byte_at l k) (byte_at l k) refl))
-
-pub same_true : (a b : List ℕ) → same_bytes a b ≡ true → a ≡ b
-same_true a b e =
-    let long = eqb (length a) (length b) in
-    let all = each (λ i x. eqb x (byte_at b i)) a in
-    ext_get_or 0 a b (eqb-true (length a) (length b) (and_left long all e)) (λ i h. eqb-true (byte_at a i) (byte_at b i) (each_at (λ k x. eqb x (byte_at b k)) 0 a (and_right long all e) i h))
 
 -- ---- written, then read
 

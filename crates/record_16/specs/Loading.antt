@@ -1,10 +1,11 @@
 -- What bytes give of this model's record.
-use Rattle.std.specs.Prelude.{ℕ, List}
+use Rattle.std.specs.Prelude.{ℕ, List, Option, Some, None}
+use Rattle.arrays.specs.Base.{when◌then◌else◌}
 use Rattle.record.specs.Good.{good_bytes, record_taken}
 use Rattle.sizes_16.specs.Sizes.{nexus_count, place_count}
 use Rattle.device_16.specs.Model.{record_of}
-use Rattle.record_16.specs.declared.Loaded.{Loaded}
+use Rattle.device_16.specs.declared.Record.{Record}
 
--- whether they are a record, and the record; a refused load gives that of power-on
-abbrev pub loaded : List ℕ → Loaded
-loaded bytes = record { good = good_bytes nexus_count place_count bytes; taken = record_of (record_taken nexus_count place_count bytes) }
+-- the record, where they are one; a refused load gives none
+abbrev pub loaded : List ℕ → Option Record
+loaded bytes = when good_bytes nexus_count place_count bytes then Some (record_of (record_taken nexus_count place_count bytes)) else None

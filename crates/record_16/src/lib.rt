@@ -24,20 +24,14 @@ const WORDS_FROM: usize = NEXUSES_FROM + NEXUSES * NEXUS_SIZE;
 
 pub const RECORD_SIZE: usize = WORDS_FROM + PLACES * WORD_SIZE;
 
-// What bytes give: whether they are a record, and the record; that of power-on where they are not.
-#[derive(Clone, Copy)]
-pub struct Loaded {
-    pub good: bool,
-    pub taken: Record,
-}
+// The three that store stay apart: one for all would be handed the place, the count, the size and the bytes, more than its loop has lines.
 
 // Stores the bytes of each set, so many.
 fn put_sets(buffer: &mut [u8], places: [Set; PLACES])
     ensures { (buffer.new ≡ sets buffer.old counter_size (joined set_bytes places)) × (length (joined set_bytes places) ≡ place_count * set_size) }
 {
-    for place in 0..PLACES {
-        let set = places[place];
-        let bytes = record_code::set_bytes(set);
+    for (place, set) in places.iter().enumerate() {
+        let bytes = record_code::set_bytes(*set);
         wire_code::put(buffer, SETS_FROM + place * SET_SIZE, &bytes);
     }
 }
@@ -46,9 +40,8 @@ fn put_sets(buffer: &mut [u8], places: [Set; PLACES])
 fn put_nexuses(buffer: &mut [u8], nexuses: [Nexus; NEXUSES])
     ensures { (buffer.new ≡ sets buffer.old (nexuses_from place_count) (joined nexus_bytes nexuses)) × (length (joined nexus_bytes nexuses) ≡ nexus_count * nexus_size) }
 {
-    for n in 0..NEXUSES {
-        let nexus = nexuses[n];
-        let bytes = record_code::nexus_bytes(nexus);
+    for (n, nexus) in nexuses.iter().enumerate() {
+        let bytes = record_code::nexus_bytes(*nexus);
         wire_code::put(buffer, NEXUSES_FROM + n * NEXUS_SIZE, &bytes);
     }
 }
@@ -57,8 +50,8 @@ fn put_nexuses(buffer: &mut [u8], nexuses: [Nexus; NEXUSES])
 fn put_words(buffer: &mut [u8], words: [u64; PLACES])
     ensures { (buffer.new ≡ sets buffer.old (words_from nexus_count place_count) (joined eight words)) × (length (joined eight words) ≡ place_count * word_size) }
 {
-    for place in 0..PLACES {
-        let bytes = wire_code::eight(words[place]);
+    for (place, word) in words.iter().enumerate() {
+        let bytes = wire_code::eight(*word);
         wire_code::put(buffer, WORDS_FROM + place * WORD_SIZE, &bytes);
     }
 }
@@ -66,17 +59,15 @@ fn put_words(buffer: &mut [u8], words: [u64; PLACES])
 pub fn record_bytes(r: Record) -> [u8; RECORD_SIZE]
     ensures { result ≡ record_bytes (worded r) }
 {
-    let counter = wire_code::four(r.device.counter);
-    let places = r.device.sets;
-    let nexuses = r.device.nexuses;
-    let words = r.words;
     let mut out = [0u8; RECORD_SIZE];
-    wire_code::put(&mut out, 0, &counter);
-    put_sets(&mut out, places);
-    put_nexuses(&mut out, nexuses);
-    put_words(&mut out, words);
+    wire_code::put(&mut out, 0, &wire_code::four(r.device.counter));
+    put_sets(&mut out, r.device.sets);
+    put_nexuses(&mut out, r.device.nexuses);
+    put_words(&mut out, r.words);
     out
 }
+
+// The three that read stay apart for the same reason, and go by index: of iter_mut with enumerate the library doesn't promise what is written.
 
 fn sets_of(bytes: &[u8]) -> [Set; PLACES]
     ensures { result ≡ parts set_read set_size place_count (drop counter_size bytes.now) }
@@ -111,38 +102,29 @@ fn words_read(bytes: &[u8]) -> [u64; PLACES]
 fn device_of(bytes: &[u8]) -> Device
     ensures { result ≡ device (record_read nexus_count place_count bytes.now).state }
 {
-    let sets = sets_of(bytes);
-    let nexuses = nexuses_of(bytes);
     Device {
         counter: wire_code::number_at(bytes, 0),
-        sets,
-        nexuses,
+        sets: sets_of(bytes),
+        nexuses: nexuses_of(bytes),
     }
 }
 
 fn record_of(bytes: &[u8]) -> Record
     ensures { result ≡ record_of (record_read nexus_count place_count bytes.now) }
 {
-    let device = device_of(bytes);
-    let words = words_read(bytes);
-    Record { device, words }
+    Record {
+        device: device_of(bytes),
+        words: words_read(bytes),
+    }
 }
 
 // Bytes are a record where the record that they give has the same bytes: their count is right, and each yes or no is 1 or 0.
-pub fn load(bytes: &[u8]) -> Loaded
+pub fn load(bytes: &[u8]) -> Option<Record>
     ensures { result ≡ loaded bytes.now }
 {
     let record = record_of(bytes);
-    let again = record_bytes(record);
-    if wire_code::is_same(bytes, &again) {
-        return Loaded {
-            good: true,
-            taken: record,
-        };
+    if bytes == record_bytes(record).as_slice() {
+        return Some(record);
     }
-    let new = words_16::power_on();
-    Loaded {
-        good: false,
-        taken: new,
-    }
+    None
 }

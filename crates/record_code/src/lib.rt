@@ -8,7 +8,7 @@ ghost use Rattle.wire.specs.Buffers.{bytes_at};
 ghost use Rattle.record.specs.Reading.{kads_read, fields_read, set_read, nexus_read};
 
 use device::{Marks, Nexus, Set};
-use kad::{AKad, Kads, UKad};
+use kad::{Kad, Kads};
 use parameters::{Fields, Supplemental};
 
 pub const KADS_SIZE: usize = 46;
@@ -123,67 +123,35 @@ fn flag_at(part: &[u8], at: usize) -> bool
     wire_code::byte_at(part, at) == 1
 }
 
-fn bytes_32_at(part: &[u8], at: usize) -> [u8; 32]
-    ensures { result ≡ bytes_at 32 part.now at }
+fn bytes_at<const N: usize>(part: &[u8], at: usize) -> [u8; N]
+    ensures { result ≡ bytes_at N part.now at }
 {
-    if at < part.len() {
-        return wire_code::padded_32(&part[at..]);
-    }
-    [0; 32]
-}
-
-fn bytes_12_at(part: &[u8], at: usize) -> [u8; 12]
-    ensures { result ≡ bytes_at 12 part.now at }
-{
-    if at < part.len() {
-        return wire_code::padded_12(&part[at..]);
-    }
-    [0; 12]
-}
-
-fn bytes_128_at(part: &[u8], at: usize) -> [u8; 128]
-    ensures { result ≡ bytes_at 128 part.now at }
-{
-    let mut out = [0u8; 128];
-    if at < part.len() {
-        wire_code::put(&mut out, 0, &part[at..]);
-    }
-    out
+    wire_code::padded(wire_code::rest(part, at))
 }
 
 // The key-associated data in a part's first bytes.
 pub fn kads_read(part: &[u8]) -> Kads
     ensures { result ≡ kads_read part.now }
 {
-    let u = bytes_32_at(part, 1);
-    let a = bytes_12_at(part, 34);
+    let u = bytes_at(part, 1);
+    let a = bytes_at(part, 34);
     Kads {
-        ukad: UKad {
+        ukad: Kad {
             length: wire_code::byte_at(part, 0),
             bytes: u,
         },
-        akad: AKad {
+        akad: Kad {
             length: wire_code::byte_at(part, 33),
             bytes: a,
         },
     }
 }
 
-// Those of a set.
-fn kads_of(part: &[u8]) -> Kads
-    ensures { result ≡ kads_read (drop 175 part.now) }
-{
-    if KADS_FROM < part.len() {
-        return kads_read(&part[KADS_FROM..]);
-    }
-    Kads::NONE
-}
-
 fn fields_read(part: &[u8]) -> Fields
     ensures { result ≡ fields_read part.now }
 {
-    let key = bytes_32_at(part, HEAD_SIZE);
-    let kads = kads_of(part);
+    let key = bytes_at(part, HEAD_SIZE);
+    let kads = kads_read(wire_code::rest(part, KADS_FROM));
     Fields {
         encryption: wire_code::byte_at(part, 2),
         decryption: wire_code::byte_at(part, 3),
@@ -203,7 +171,7 @@ pub fn set_read(part: &[u8]) -> Set
     ensures { result ≡ set_read part.now }
 {
     let fields = fields_read(part);
-    let keys = bytes_128_at(part, KEYS_FROM + 1);
+    let keys = bytes_at(part, KEYS_FROM + 1);
     Set {
         owner: wire_code::byte_at(part, 0),
         scope: wire_code::byte_at(part, 1),
@@ -233,32 +201,23 @@ pub fn nexus_read(part: &[u8]) -> Nexus
     }
 }
 
-// The set that starts at an index.
+// The set that starts at an index. One call here and in the two below: a reader handed over would be no shorter.
 pub fn set_at(bytes: &[u8], at: usize) -> Set
     ensures { result ≡ set_read (drop at bytes.now) }
 {
-    if at < bytes.len() {
-        return set_read(&bytes[at..]);
-    }
-    Set::DEFAULT
+    set_read(wire_code::rest(bytes, at))
 }
 
 // The nexus that starts at an index.
 pub fn nexus_at(bytes: &[u8], at: usize) -> Nexus
     ensures { result ≡ nexus_read (drop at bytes.now) }
 {
-    if at < bytes.len() {
-        return nexus_read(&bytes[at..]);
-    }
-    Nexus::NEW
+    nexus_read(wire_code::rest(bytes, at))
 }
 
 // The word that starts at an index.
 pub fn word_at(bytes: &[u8], at: usize) -> u64
     ensures { result ≡ wide (drop at bytes.now) }
 {
-    if at < bytes.len() {
-        return wire_code::wide(&bytes[at..]);
-    }
-    0
+    wire_code::wide(wire_code::rest(bytes, at))
 }

@@ -7,7 +7,7 @@ use mathlib.Core.List.{List, [], ◌∷◌, ◌++◌, map, map-append}
 use native.Mathlib.Omega.{arith}
 use lib.Dec.{eqb, eqb-zero-suc, eqb-suc-suc}
 use lib.ListN.{length, take, drop, length-append, length-take, length-drop, length-map, get_or-append}
-use lib.Seq.{get_or-take, drop-append-le}
+use lib.Seq.{get_or-take, drop-append-le, drop-append_seam}
 use Rattle.arrays.proofs.Base.{cases, both, and_left, and_right}
 use Rattle.arrays.proofs.Laws.{all_cons, map-take, drop-take}
 use Rattle.wire.specs.Numbers.{byte_at}
@@ -45,6 +45,15 @@ unfolding entry_of
 entry-take n bytes h =
     let at : (i : ℕ) → i < 8 → byte_at (take n bytes) i ≡ byte_at bytes i = λ i l. get_or-take n bytes i 0 (omega arith) in
     simp (at 0 (omega arith), at 1 (omega arith), at 2 (omega arith), at 3 (omega arith), at 4 (omega arith), at 5 (omega arith), at 6 (omega arith), at 7 (omega arith))
+
+-- where bytes are cut into eights, each is the next event
+pub event_comes : (bytes event rest : List ℕ) → bytes ≡ event ++ rest → length event ≡ 8 → (8 ≤ length bytes) × (entry_of event ≡ entry_of bytes) × (rest ≡ drop 8 bytes)
+event_comes bytes event rest is long =
+    let here : 8 ≤ length event = omega arith in (
+      omega (arith, ap length is, length-append event rest),
+      sym (ap entry_of is ∙ entry-append event rest here),
+      sym (ap (drop 8) is ∙ ap (λ n. drop n (event ++ rest)) (sym long) ∙ drop-append_seam event rest),
+    )
 
 -- ---- how many are sound
 

@@ -82,7 +82,7 @@ impl Form {
     };
 }
 
-// What a recorded session as a whole is answered.
+// What a recorded session as a whole is answered. Its numbers have one for "done" too (0), as the answers have: so it is no Result.
 #[derive(Clone, Copy)]
 pub enum Verdict {
     Done,

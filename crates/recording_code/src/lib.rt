@@ -11,7 +11,7 @@ ghost use Rattle.recording.specs.Files.{header, headed, event_bytes, page_bytes,
 use calls::Asked;
 use recording::{ENTRY_SIZE, Entry, Form, HEADER_SIZE, Header, PROTOCOL, Verdict};
 
-// What the fields of an event may hold, by its kind's number.
+// What the fields of an event may hold, by its kind's number: a row for each kind, as the definition `forms` has them.
 const FORMS: [Form; 12] = [
     Form::NO_FIELD,
     Form::NUMBER,
@@ -27,7 +27,7 @@ const FORMS: [Form; 12] = [
     Form::NUMBER,
 ];
 
-// The verdict's number in document 02.
+// The verdict's number in document 02, row by row as the definition `verdict_number` has them.
 pub fn verdict_number(verdict: Verdict) -> u8
     ensures { result ≡ verdict_number verdict }
 {
@@ -41,7 +41,7 @@ pub fn verdict_number(verdict: Verdict) -> u8
     }
 }
 
-// The event that a run of bytes begins with; what is past the end reads as 0.
+// The event that a run of bytes begins with; what is past the end reads as 0, so there is nothing to refuse and no Option.
 pub fn entry_of(bytes: &[u8]) -> Entry
     ensures { result ≡ entry_of bytes.now }
 {
@@ -86,16 +86,12 @@ fn is_sound(e: Entry, page_count: usize) -> bool
 pub fn sound_run(events: &[u8], page_count: usize) -> usize
     ensures { result ≡ sound_run page_count (entries events.now) }
 {
-    let mut rest = events;
-    let mut count = 0;
-    while ENTRY_SIZE <= rest.len() {
-        if !is_sound(entry_of(rest), page_count) {
-            return count;
+    for (i, event) in events.chunks_exact(ENTRY_SIZE).enumerate() {
+        if !is_sound(entry_of(event), page_count) {
+            return i;
         }
-        rest = &rest[ENTRY_SIZE..];
-        count += 1;
     }
-    count
+    events.len() / ENTRY_SIZE
 }
 
 // What an event asks of the drive.
@@ -112,7 +108,7 @@ pub fn page_of(e: Entry, pages: &[u8]) -> &[u8]
     wire_code::part(pages, e.page_offset as usize, e.page_length as usize)
 }
 
-// The four numbers of a header.
+// The four numbers of a header; what is past the end reads as 0, as of an event.
 pub fn header_of(file: &[u8]) -> Header
     ensures { result ≡ header file.now }
 {
@@ -124,7 +120,7 @@ pub fn header_of(file: &[u8]) -> Header
     }
 }
 
-// A header's 8 bytes: of each number its lower 16 bits.
+// A header's 8 bytes: of each number its lower 16 bits. Written out: the library's join of arrays gives a Vec, and there is no heap.
 pub fn header_bytes(h: Header) -> [u8; HEADER_SIZE]
     ensures { result ≡ header_bytes h }
 {

@@ -2,17 +2,18 @@
 -- Assumes nothing.
 use Prim.Native.Nat.{ℕ, ◌+◌, ◌%◌, ◌<◌, ◌≤◌}
 use mathlib.Core.Path.{◌≡◌, refl, sym, ap, subst, ◌∙◌}
-use mathlib.Core.Bool.{Bool, true, false}
+use mathlib.Core.Bool.{Bool}
 use mathlib.Core.List.{List, [], ◌∷◌}
 use native.Mathlib.Omega.{arith}
-use lib.Dec.{eqb}
 use lib.ListN.{length}
 use lib.Seq.{sets}
-use Rattle.arrays.proofs.Base.{if-elim, if-true, if-false}
-use Rattle.wire.specs.Numbers.{two, eight}
-use Rattle.answer.specs.Answers.{row_of, faulty_byte_of, is_done}
+use Rattle.std.specs.Prelude.{Ok, Err}
+use Rattle.arrays.proofs.Base.{cases, if-elim, if-true, if-false}
+use Rattle.wire.specs.Numbers.{eight}
+use Rattle.answer.specs.Answers.{is_done}
 use Rattle.answer.specs.declared.Answer.{Answer}
-use Rattle.answer.specs.declared.Row.{Row}
+use Rattle.answer.specs.declared.Answer.TheVariants.{Done}
+use Rattle.answer.proofs.Numbers.{done-is}
 use Rattle.device.specs.Record.{State}
 use Rattle.device.specs.Words.{Worded}
 use Rattle.device.proofs.Selecting.{selected-within}
@@ -23,11 +24,11 @@ use Rattle.drive.specs.Restoring.{read_value_of}
 use Rattle.drive.specs.Calls.{security_out, write, read}
 use Rattle.drive.specs.Records.{answer_of}
 use Rattle.drive.specs.Outcomes.{value_of, decided_place}
+use Rattle.drive.specs.Serving.{served_answer, served_word}
 use Rattle.drive_16.specs.Outcomes.{outcome, write_outcome, read_outcome, served}
 use Rattle.drive_16.specs.declared.Outcome.{Outcome}
 use Rattle.drive_16.specs.declared.WriteOutcome.{WriteOutcome}
 use Rattle.drive_16.specs.declared.ReadOutcome.{ReadOutcome}
-use Rattle.drive_16.specs.declared.Served.{Served}
 use Rattle.command.specs.Replies.{reply_head_size, Replied, answered, when_done, pointer, out_reply, write_reply, read_reply, serves_reply}
 use Rattle.reply_16.specs.Giving.{reply_most, reply_of, reply_with, Given}
 use Rattle.reply_16.specs.declared.Reply.{Reply}
@@ -55,19 +56,6 @@ module _ (a : Answer) (gives : List ℕ) (w : Worded) where
     fits = omega (arith, size, ap length given);
   }
 
--- the reply to a page, by the row of its answer
-module _ (a : Answer) (w : Worded) {row : Row} (p : row ≡ row_of a) where
-  -- not 8: no data
-  pub unpointed : (b : List ℕ) (r : Reply) → eqb row.number 8 ≡ false → r ≡ reply_with (record_of w) a 0 → Given (answered a (pointer a) w) b r b
-  unpointed b r f u = stopped a (pointer a) w b r (if-false _ _ _ (ap (λ (x : Row). eqb x.number 8) (sym p) ∙ f)) u
-
-  -- 8: the number of the faulty byte
-  pub pointed : (b : List ℕ) {bytes end : List ℕ} {r : Reply} → eqb row.number 8 ≡ true → bytes ≡ two row.faulty_byte → end ≡ sets b reply_head_size bytes
-      → r ≡ reply_with (record_of w) a 2 → Given (answered a (pointer a) w) b r end
-  pointed b {bytes} t e v u =
-      let told : two (faulty_byte_of a) ≡ bytes = sym (e ∙ ap (λ (x : Row). two x.faulty_byte) p) in
-      stored a (pointer a) w bytes b 2 (if-true _ _ _ (ap (λ (x : Row). eqb x.number 8) (sym p) ∙ t) ∙ told) (ap length told) (omega arith) v u
-
 -- a page that is sent
 pub out-given : (w : Worded) (command : Command) (page : List ℕ) {o : Outcome} → o ≡ outcome w (security_out command page)
     → answered o.answer (pointer o.answer) (worded o.after) ≡ out_reply w command page
@@ -93,8 +81,27 @@ pub read-given : (w : Worded) (n : ℕ) (block : Block) {o : ReadOutcome} {value
 unfolding read_reply read_outcome
 read-given w n block some few p v = rw (v, p, place_byte w.state n (answer_of w (read n block)) some few) refl
 
--- the question: the place's word
-pub serves-given : (w : Worded) (place : ℕ) {o : Served} {bytes : List ℕ} → o ≡ served w place → bytes ≡ eight o.word
-    → answered o.answer (when_done o.answer bytes) w ≡ serves_reply w place
-unfolding serves_reply served
-serves-given w place p e = rw (e, p) refl
+-- the question: the place's word, or the answer that refuses
+module _ (w : Worded) (place : ℕ) {b : List ℕ} {r : Reply} where
+  pub serves-given : {word : ℕ} {bytes end : List ℕ} → Ok word ≡ served w place → bytes ≡ eight word → Given (answered Done bytes w) b r end → Given (serves_reply w place) b r end
+  unfolding serves_reply served
+  serves-given {word} {bytes} e p g =
+      let a = served_answer w place in
+      cases (is_done a)
+      (λ t.
+      let v : Ok word ≡ Ok (served_word w place a) = e ∙ if-true _ _ _ t in
+      let is : word ≡ served_word w place a = cc in
+      given-as
+      (ap (λ (l : List ℕ). answered Done l w) (p ∙ ap eight is ∙ sym (if-true _ _ _ t)) ∙ ap (λ (x : Answer). answered x (when_done a (eight (served_word w place a))) w) (sym (done-is a t))) g)
+      (λ f. let v : Ok word ≡ Err a = e ∙ if-false _ _ _ f in cc)
+
+  pub serves-refused : {a : Answer} → Err a ≡ served w place → r ≡ reply_with (record_of w) a 0 → Given (serves_reply w place) b r b
+  unfolding serves_reply served
+  serves-refused {a} e u =
+      let due = served_answer w place in
+      cases (is_done due)
+      (λ t. let v : Err a ≡ Ok (served_word w place due) = e ∙ if-true _ _ _ t in cc)
+      (λ f.
+      let v : Err a ≡ Err due = e ∙ if-false _ _ _ f in
+      let is : a ≡ due = cc in
+      given-as (ap (λ (x : Answer). answered x [] w) is ∙ ap (λ (l : List ℕ). answered due l w) (sym (if-false _ _ _ f))) (stopped a [] w b r refl u))

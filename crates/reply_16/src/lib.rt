@@ -22,9 +22,6 @@ pub const IN_FROM: usize = HEAD_SIZE + 2;
 // Room for every reply: IN's with the largest lent buffer, and the record's, whichever is longer in this model.
 pub const REPLY_MOST: usize = IN_FROM + LENT_MOST as usize + RECORD_SIZE;
 
-// The number of the answer that points to a byte.
-const POINTING: u8 = 8;
-
 // The values of a status page before its key-associated data.
 const VALUES_SIZE: usize = 11;
 
@@ -43,11 +40,10 @@ pub fn reply_with(after: Record, answer: Answer, length: usize) -> Reply
     ensures { result ≡ reply_with after answer length }
 {
     let row = answer_code::row_of(answer);
-    let sense = row.sense;
     Reply {
         after,
         number: row.number,
-        sense,
+        sense: row.sense,
         length,
     }
 }
@@ -56,9 +52,7 @@ pub fn reply_with(after: Record, answer: Answer, length: usize) -> Reply
 pub fn plain(outcome: Outcome) -> Reply
     ensures { result ≡ reply_with outcome.after outcome.answer 0 }
 {
-    let after = outcome.after;
-    let answer = outcome.answer;
-    reply_with(after, answer, 0)
+    reply_with(outcome.after, outcome.answer, 0)
 }
 
 // The reply to an unknown command.
@@ -89,12 +83,10 @@ fn give(r: Record, answer: Answer, bytes: &[u8], buffer: &mut [u8]) -> Reply
 fn point(r: Record, answer: Answer, buffer: &mut [u8]) -> Reply
     ensures { Given (answered answer (pointer answer) (worded r)) buffer.old result buffer.new }
 {
-    let row = answer_code::row_of(answer);
-    if row.number != POINTING {
+    let Answer::FieldWrong(byte) = answer else {
         return reply_with(r, answer, 0);
-    }
-    let byte = wire_code::two(row.faulty_byte);
-    wire_code::put(buffer, HEAD_SIZE, &byte);
+    };
+    wire_code::put(buffer, HEAD_SIZE, &wire_code::two(byte));
     reply_with(r, answer, 2)
 }
 
@@ -103,9 +95,7 @@ pub fn give_out(r: Record, command: Command, page: &[u8], buffer: &mut [u8]) -> 
     ensures { Given (out_reply (worded r) command page.now) buffer.old result buffer.new }
 {
     let outcome = drive_16::security_out(r, command, page);
-    let answer = outcome.answer;
-    let after = outcome.after;
-    point(after, answer, buffer)
+    point(outcome.after, outcome.answer, buffer)
 }
 
 // The write decision.
@@ -113,15 +103,12 @@ pub fn give_write(r: Record, n: u8, supported: bool, buffer: &mut [u8]) -> Reply
     ensures { Given (write_reply (worded r) n supported) buffer.old result buffer.new }
 {
     let outcome = drive_16::write(r, n, supported);
-    let answer = outcome.answer;
-    let decision = outcome.decision;
-    let after = outcome.after;
     let bytes = [
-        drive_code::value_of(decision),
+        drive_code::value_of(outcome.decision),
         (outcome.place % 256) as u8,
         outcome.index,
     ];
-    give(after, answer, &bytes, buffer)
+    give(outcome.after, outcome.answer, &bytes, buffer)
 }
 
 // The read decision.
@@ -129,54 +116,47 @@ pub fn give_read(r: Record, n: u8, block: Block, buffer: &mut [u8]) -> Reply
     ensures { Given (read_reply (worded r) n block) buffer.old result buffer.new }
 {
     let outcome = drive_16::read(r, n, block);
-    let answer = outcome.answer;
-    let decision = outcome.decision;
-    let after = outcome.after;
     let bytes = [
-        drive_code::read_value_of(decision),
+        drive_code::read_value_of(outcome.decision),
         (outcome.place % 256) as u8,
     ];
-    give(after, answer, &bytes, buffer)
+    give(outcome.after, outcome.answer, &bytes, buffer)
 }
 
 // The question which nexuses select a place: the place's word.
 pub fn give_served(r: Record, place: u16, buffer: &mut [u8]) -> Reply
     ensures { Given (serves_reply (worded r) place) buffer.old result buffer.new }
 {
-    let served = drive_16::serves(r, place);
-    let answer = served.answer;
-    let bytes = wire_code::eight(served.word);
-    give(r, answer, &bytes, buffer)
+    match drive_16::serves(r, place) {
+        Ok(word) => give(r, Answer::Done, &wire_code::eight(word), buffer),
+        Err(answer) => reply_with(r, answer, 0),
+    }
 }
 
 // The status reader.
 pub fn give_status(r: Record, page: &[u8], buffer: &mut [u8]) -> Reply
     ensures { Given (status_reply (worded r) page.now) buffer.old result buffer.new }
 {
-    let read = status_code::read_status(page);
-    let answer = read.answer;
-    let status = read.status;
-    if !answer_code::is_done(answer) {
-        return point(r, answer, buffer);
+    match status_code::read_status(page) {
+        Ok(status) => {
+            let head = command_code::values_head(status);
+            let rest = record_code::kads_bytes(status.kads);
+            wire_code::put(buffer, HEAD_SIZE, &head);
+            wire_code::put(buffer, HEAD_SIZE + VALUES_SIZE, &rest);
+            reply_with(r, Answer::Done, VALUES_SIZE + KADS_SIZE)
+        }
+        Err(answer) => point(r, answer, buffer),
     }
-    let kads = status.kads;
-    let head = command_code::values_head(status);
-    let rest = record_code::kads_bytes(kads);
-    wire_code::put(buffer, HEAD_SIZE, &head);
-    wire_code::put(buffer, HEAD_SIZE + VALUES_SIZE, &rest);
-    reply_with(r, answer, VALUES_SIZE + KADS_SIZE)
 }
 
 // A device record taken.
 pub fn take_record(r: Record, bytes: &[u8]) -> Reply
     ensures { result ≡ reply_of (take_reply (worded r) bytes.now) }
 {
-    let loaded = record_16::load(bytes);
-    if !loaded.good {
-        return reply_with(r, Answer::NotWellFormed, 0);
+    match record_16::load(bytes) {
+        Some(taken) => reply_with(taken, Answer::Done, 0),
+        None => reply_with(r, Answer::NotWellFormed, 0),
     }
-    let taken = loaded.taken;
-    reply_with(taken, Answer::Done, 0)
 }
 
 // The device record given.

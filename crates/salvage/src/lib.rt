@@ -6,7 +6,8 @@ use recording::{Header, Verdict};
 // The most bytes of a file.
 pub const FILE_MOST: usize = 65535;
 
-// What is reported: the old and the new numbers of the header, and how many events were dropped.
+// What is reported: the old and the new numbers of the header, and how many events were dropped. Not a Result: document 01 has it that every
+// number of a refused report is zero, and `reported` says so.
 #[derive(Clone, Copy)]
 pub struct Salvaged {
     pub verdict: Verdict,

@@ -3,14 +3,16 @@
 
 ghost use Rattle.std.specs.Prelude.{◌≡◌, ◌++◌, ◌≤◌, ◌<◌, ◌+◌, ◌*◌, length};
 ghost use Rattle.wire.specs.Buffers.{shown};
-ghost use Rattle.text.specs.Making.{lines_most, told_lines, and_each, size_of};
+ghost use Rattle.wire.specs.Parts.{joined};
+ghost use Rattle.text.specs.Making.{lines_most, size_of};
+ghost use Rattle.text_code.specs.Telling.{and_text, told_lines};
 ghost use Rattle.recording.specs.Files.{right_header};
 ghost use Rattle.salvage.specs.Salvage.{is_salvageable, kept_count, Saves};
 ghost use Rattle.salvage.specs.Reports.{change, report_text};
 
 use recording::{ENTRY_SIZE, HEADER_SIZE, Header, Verdict};
 use salvage::{FILE_MOST, Salvaged};
-use text::{LINES_MOST, Lines};
+use text_code::Lines;
 
 // From 8 to 65,535 bytes, with a stored page offset of 8 plus a multiple of 8 that isn't past the file.
 fn is_salvageable(file: &[u8]) -> bool
@@ -78,32 +80,35 @@ pub fn salvage(file: &[u8], out: &mut [u8]) -> Salvaged
     }
 }
 
-// Lines with a header number's line more, which has at most 45 bytes beside its name.
-fn and_change(lines: Lines, name: &[u8], old: usize, new: usize) -> Lines
-    ensures { (result ≡ and_each lines (change name.now old new)) × (size_of (change name.now old new) ≤ length name.now + 45) }
+// Puts a header number's line, which has at most 45 bytes beside its name.
+fn put_change(lines: &mut Lines, name: &[u8], old: usize, new: usize)
+    ensures { (lines.new ≡ and_text lines.old (joined (λ part. part) (change name.now old new))) × (size_of (change name.now old new) ≤ length name.now + 45) }
 {
-    let named = text_code::and_words(lines, name);
-    let before = text_code::and_number(named, old as u64);
-    let between = text_code::and_words(before, b" -> ");
-    let after = text_code::and_number(between, new as u64);
-    text_code::and_words(after, b"\n")
+    lines.put_words(name);
+    lines.put_number(old as u64);
+    lines.put_words(b" -> ");
+    lines.put_number(new as u64);
+    lines.put_words(b"\n");
 }
 
 // The lines of the report.
 pub fn tell(salvaged: Salvaged) -> Lines
     ensures { (result ≡ told_lines (report_text salvaged)) × (result.length ≤ lines_most) }
 {
-    let none = Lines {
-        bytes: [0u8; LINES_MOST],
-        length: 0,
-    };
     let old = salvaged.old;
     let new = salvaged.new;
-    let events = and_change(none, b"events ", old.event_count, new.event_count);
-    let first = and_change(events, b"first event ", old.first_event, new.first_event);
-    let pages = and_change(first, b"page bytes ", old.pages_from, new.pages_from);
-    let total = and_change(pages, b"total ", old.total, new.total);
-    let named = text_code::and_words(total, b"dropped ");
-    let counted = text_code::and_number(named, salvaged.dropped as u64);
-    text_code::and_words(counted, b"\n")
+    let mut lines = Lines::NONE;
+    put_change(&mut lines, b"events ", old.event_count, new.event_count);
+    put_change(
+        &mut lines,
+        b"first event ",
+        old.first_event,
+        new.first_event,
+    );
+    put_change(&mut lines, b"page bytes ", old.pages_from, new.pages_from);
+    put_change(&mut lines, b"total ", old.total, new.total);
+    lines.put_words(b"dropped ");
+    lines.put_number(salvaged.dropped as u64);
+    lines.put_words(b"\n");
+    lines
 }

@@ -22,7 +22,7 @@ use Rattle.answer.specs.declared.Answer.TheVariants.{Done, NotWellFormed, NexusA
 use Rattle.why.specs.declared.Deed.{Deed}
 use Rattle.why.specs.declared.Deed.TheVariants.{Untouched, Established, Replaced, Evicted, Released}
 use Rattle.why.specs.declared.Reason.{Reason}
-use Rattle.sentence.specs.Telling.{position_of, kind_names, kind_words, has_nexus, nexus_words, event_words, deed_words, touch_words, block_words, allowed_words, unsupported_words, sentence_by, stopper_words, first_line, second_line, reason_text}
+use Rattle.sentence.specs.Telling.{position_of, kind_names, kind_words, has_nexus, nexus_words, event_words, deed_words, touch_words, block_words, allowed_words, unsupported_words, sentence_by, stopper_words, first_line, second_line, reason_text, write_text}
 use Rattle.text.specs.Making.{lines_most}
 
 -- ---- texts of at most so many bytes
@@ -157,4 +157,12 @@ module _
         let low = number-low reason.cause.answer in
         let whole : Few (reason_text reason) lines_most =
         within (after (after (after (number (omega arith)) (stopper-few _ _ _ (omega arith) (omega arith))) (said (bytes_of "\n"))) (after (sentence-few _) (said (bytes_of "\n")))) (omega arith) in
+        whole.low
+
+    -- So is what is said of a write.
+    pub write-fits : (position : ℕ) → position < 2 ^ 64 → length (write_text position reason) ≤ lines_most
+    unfolding write_text second_line bytes_of
+    write-fits position p =
+        let whole : Few (write_text position reason) lines_most =
+        within (after (after (after (said (bytes_of "")) (number p)) (said (bytes_of " "))) (after (sentence-few _) (said (bytes_of "\n")))) (omega arith) in
         whole.low

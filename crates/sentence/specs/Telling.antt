@@ -1,13 +1,11 @@
 -- Document 02, request 8: "a plain reason for a nexus's next write", its two lines to the character. What else stands in quotation marks is
 -- docs/REASONS.md's.
-use Rattle.std.specs.Prelude.{ℕ, Bool, ◌||◌, List, [], ◌∷◌, ◌++◌, eqb, get_or}
+use Rattle.std.specs.Prelude.{ℕ, Bool, ◌||◌, List, [], ◌∷◌, ◌++◌, eqb, get_or, Option, Some, None}
 use Prim.Native.String.{String}
 use Rattle.arrays.specs.Base.{when◌then◌else◌}
 use Rattle.text.specs.Characters.{bytes_of}
 use Rattle.text.specs.Decimal.{decimal}
 use Rattle.answer.specs.Answers.{number_of}
-use Rattle.device.specs.declared.Found.{Found}
-use Rattle.device.specs.declared.Found.TheVariants.{At, Nowhere}
 use Rattle.why.specs.declared.Deed.{Deed}
 use Rattle.why.specs.declared.Deed.TheVariants.{Untouched, Established, Replaced, Evicted, Released}
 use Rattle.why.specs.declared.Reason.{Reason}
@@ -19,9 +17,9 @@ words_and words n = bytes_of words ++ decimal n
 -- ---- an event
 
 -- request 8: "positions count from 0"; where there is none, 0 is read
-abbrev pub position_of : Found → ℕ
-position_of (At i) = i
-position_of Nowhere = 0
+abbrev pub position_of : Option ℕ → ℕ
+position_of (Some i) = i
+position_of None = 0
 
 -- request 3: "Kinds: 0 power-on, .."
 abbrev pub kind_names : List String

@@ -18,7 +18,7 @@ use recording::{ENTRY_SIZE, Verdict};
 use session::ANSWER_SIZE;
 use sizes_16::NEXUSES;
 
-// What a session gives: the record at the end, and its verdict.
+// What a session gives: its verdict, and beside each the record at the end: power-on's of a file that is refused, a refused batch's as it was.
 #[derive(Clone, Copy)]
 pub struct Ran {
     pub after: Record,
@@ -38,8 +38,7 @@ fn four_of(answer: Answer) -> [u8; ANSWER_SIZE]
 fn store(out: &mut [u8], at: usize, answer: Answer)
     ensures { out.new ≡ sets out.old at (four_of answer) }
 {
-    let four = four_of(answer);
-    wire_code::put(out, at, &four);
+    wire_code::put(out, at, &four_of(answer));
 }
 
 // The events in order, from any record: check 1 is made once. The lent buffer gets the answers, as many of their bytes as it holds, and
@@ -49,16 +48,13 @@ pub fn run(r: Record, events: &[u8], pages: &[u8], out: &mut [u8]) -> Record
 {
     let mut after = r;
     let mut formed = words_16::formed(r);
-    let mut rest = events;
-    let mut i = 0;
-    while ENTRY_SIZE <= rest.len() {
-        let e = recording_code::entry_of(rest);
+    for (i, event) in events.chunks_exact(ENTRY_SIZE).enumerate() {
+        let e = recording_code::entry_of(event);
         let asked = recording_code::asked_of(e);
         let sight = calls_16::look(after.device, calls_code::sender_number(asked));
         let quiet = calls_code::quietly(formed, NEXUSES, sight.nexus, sight.set, asked);
         if quiet.quiet {
-            let answer = quiet.answer;
-            store(out, ANSWER_SIZE * i, answer);
+            store(out, ANSWER_SIZE * i, quiet.answer);
         } else {
             let outcome = calls_16::perform(
                 after,
@@ -66,13 +62,10 @@ pub fn run(r: Record, events: &[u8], pages: &[u8], out: &mut [u8]) -> Record
                 asked,
                 recording_code::page_of(e, pages),
             );
-            let answer = outcome.answer;
-            store(out, ANSWER_SIZE * i, answer);
+            store(out, ANSWER_SIZE * i, outcome.answer);
             after = outcome.after;
             formed = formed | calls_code::is_power_on(asked);
         }
-        rest = &rest[ENTRY_SIZE..];
-        i += 1;
     }
     after
 }

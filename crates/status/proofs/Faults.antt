@@ -1,5 +1,6 @@
 -- The rules of a status page in plain relations.
 -- Assumes nothing.
+use Rattle.std.specs.Prelude.{None}
 use mathlib.Core.List.{List}
 use Prim.Native.Nat.{ℕ}
 use lib.ListN.{length, drop}
@@ -9,7 +10,6 @@ use Rattle.wire.specs.Numbers.{byte_at, word_at}
 use Rattle.wire.specs.Rules.{BreaksAt}
 use Rattle.wire.proofs.Lowest.{rule-due, breaks-append, zeros-due}
 use Rattle.kad.specs.Rules.{list_rules}
-use Rattle.kad.specs.declared.Seen.TheVariants.{Nothing}
 use Rattle.kad.proofs.Pointing.{list-faults}
 use Rattle.status.specs.Bytes.{status_byte4, status_byte12}
 use Rattle.status.specs.Pointing.{zeros, codes, every_head_rule, every_status_rule}
@@ -30,4 +30,4 @@ module _ (p : List ℕ) (i : ℕ) where
 
   -- A rule of a status page breaks at a byte exactly if the page is wrong there as document 01 says, and 02 points to that byte.
   pub status-faults : Exactly (BreaksAt i (every_status_rule p)) (StatusFault p i)
-  status-faults = breaks-append i (every_head_rule p) (list_rules (length (drop 24 p)) 24 (drop 24 p) Nothing) head-due (list-faults (length (drop 24 p)) 24 (drop 24 p) Nothing i)
+  status-faults = breaks-append i (every_head_rule p) (list_rules (length (drop 24 p)) 24 (drop 24 p) None) head-due (list-faults (length (drop 24 p)) 24 (drop 24 p) None i)

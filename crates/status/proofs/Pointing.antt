@@ -1,6 +1,7 @@
 -- Document 02, request 6, of the status reader: the byte of answer 8 is the lowest at which a rule of 01 breaks, whatever order the rules are
 -- tested in.
 -- Assumes nothing.
+use Rattle.std.specs.Prelude.{None}
 use mathlib.Core.Path.{refl}
 use mathlib.Core.Logic.{inl, ⊎_elim}
 use mathlib.Core.List.{List, ◌++◌}
@@ -13,7 +14,6 @@ use Rattle.wire.specs.Rules.{RightLength, breach}
 use Rattle.wire.proofs.Rules.{AllHold, Sorted, sorted-append, zeros-sorted, hold-append}
 use Rattle.wire.proofs.Lowest.{length-due, lowest-of, Same, same_self, same_then, same-both, same_after, same-swap, same_move}
 use Rattle.kad.specs.Kad.{no_kads}
-use Rattle.kad.specs.declared.Seen.TheVariants.{Nothing}
 use Rattle.kad.proofs.Lowest.{list-sorted, list-hold}
 use Rattle.pointing.specs.Judged.{Judged}
 use Rattle.pointing.proofs.Judging.{judged-short, judged-wrong, judged-right, judged-same}
@@ -43,7 +43,7 @@ head-sorted p = sorted-append (scope_rules p) (field_rules p) 0 5 (open-sorted p
 pub status-sorted : (p : List ℕ) → Sorted 0 (status_rules p)
 status-sorted p =
     let rest = drop descriptors_from p in
-    sorted-append (head_rules p) (descriptors_rules p) 0 descriptors_from (head-sorted p) (head-under p) (omega arith) (list-sorted (length rest) descriptors_from rest Nothing)
+    sorted-append (head_rules p) (descriptors_rules p) 0 descriptors_from (head-sorted p) (head-under p) (omega arith) (list-sorted (length rest) descriptors_from rest None)
 
 -- ---- the same rules in the order of their bytes and in 01's
 
@@ -73,7 +73,7 @@ all_hold : (p : List ℕ) → Accepted p → AllHold (status_rules p)
 all_hold p a =
     let rest = drop descriptors_from p in
     hold-append (head_rules p) (descriptors_rules p) a.head
-    (list-hold (length rest) descriptors_from rest Nothing no_kads (le_refl (length rest)) (omega (arith, a.list)))
+    (list-hold (length rest) descriptors_from rest None no_kads (le_refl (length rest)) (omega (arith, a.list)))
 
 -- over the rules in the order of their bytes
 status-verdict : (p : List ℕ) → Judged (RightLength descriptors_from p) (status_rules p) p (read_status p).answer

@@ -1,5 +1,6 @@
 -- The ways that the reader of the status page goes, each by the tests that lead there, and what is known of a page that it accepts.
 -- Assumes nothing.
+use Rattle.std.specs.Prelude.{None}
 use mathlib.Core.Path.{◌≡◌, refl, sym, ap, ◌∙◌}
 use mathlib.Core.Bool.{true, false}
 use mathlib.Core.Logic.{◌⊎◌, inl, inr, ⊎_elim}
@@ -10,26 +11,28 @@ use native.Mathlib.Omega.{arith}
 use borrow.Author.Tests.{eqb-true, eq-eqb, ltb-true, ltb-false, lt-ltb, le-ltb, leb-true, le-leb}
 use lib.Dec.{ltb}
 use lib.ListN.{length, drop, length-take, length-drop}
-use Rattle.arrays.proofs.Base.{cases}
+use Rattle.std.specs.Prelude.{Result, Ok, Err}
+use Rattle.arrays.proofs.Base.{cases, if-true, if-false}
 use Rattle.wire.specs.Numbers.{byte_at, word_at}
 use Rattle.wire.specs.Buffers.{all_zero}
 use Rattle.wire.specs.Rules.{length_wrong, Rule, breach, zero_rules}
 use Rattle.wire.proofs.Rules.{AllHold, Under, low, high, rest, under-append, under_more, hold-append, zeros-under, zeros-hold, hold-zeros}
 use Rattle.wire.proofs.Lowest.{right-length, first-hold}
 use Rattle.answer.specs.declared.Answer.TheVariants.{Done, PageLengthWrong, FieldWrong}
+use Rattle.answer.specs.Answers.{is_done}
+use Rattle.answer.specs.declared.Answer.{Answer}
+use Rattle.status.specs.declared.Status.{Status}
 use Rattle.answer.proofs.Numbers.{differ}
 use Rattle.kad.specs.Kad.{no_kads}
 use Rattle.kad.specs.Reading.{read_kads}
 use Rattle.kad.specs.Rules.{list_rules}
-use Rattle.kad.specs.declared.Seen.TheVariants.{Nothing}
 use Rattle.kad.proofs.Reading.{reading-le}
 use Rattle.kad.proofs.Few.{list-few}
 use Rattle.kad.proofs.Lowest.{first-fault}
 use Rattle.status.specs.Bytes.{status_byte4, status_byte12}
 use Rattle.status.specs.Pages.{status_code}
 use Rattle.status.specs.Rules.{descriptors_from, zeros_from, zeros_size, zero_bytes, scope_rules, field_rules, head_rules, status_rules}
-use Rattle.status.specs.Reading.{read_of, values, refused_status, read_status}
-use Rattle.status.specs.declared.StatusRead.{StatusRead}
+use Rattle.status.specs.Reading.{StatusRead, ruled, read_of, values, refused_status, read_status}
 
 -- ---- the bytes that the rules point to
 
@@ -56,7 +59,7 @@ head-under p = under-append (scope_rules p) (field_rules p) descriptors_from (un
 
 -- the descriptors' rules
 abbrev pub descriptors_rules : List ℕ → List Rule
-descriptors_rules p = list_rules (length (drop descriptors_from p)) descriptors_from (drop descriptors_from p) Nothing
+descriptors_rules p = list_rules (length (drop descriptors_from p)) descriptors_from (drop descriptors_from p) None
 
 module _ (p : List ℕ) where
   -- a wrong length
@@ -84,7 +87,7 @@ module _ (p : List ℕ) where
     list-breach =
         let rest = drop descriptors_from p in
         let ends : descriptors_from + length rest ≡ length p = omega (arith, length-drop descriptors_from p, long) in
-        rw (← ends) (first-fault (length rest) descriptors_from rest Nothing no_kads (le_refl (length rest)))
+        rw (← ends) (first-fault (length rest) descriptors_from rest None no_kads (le_refl (length rest)))
 
     -- a breach in the first 24 bytes is that of all
     pub head-breaks : (i : ℕ) → i ≡ breach (head_rules p) descriptors_from → i < descriptors_from → read_status p ≡ refused_status (FieldWrong i)
@@ -126,7 +129,7 @@ none-breaks p l h =
       long = size.0;
       exact = size.1;
       head = first-hold (head_rules p) (descriptors_rules p) n n under h;
-      list = omega (arith, length-drop descriptors_from p, reading-le (drop descriptors_from p) Nothing no_kads);
+      list = omega (arith, length-drop descriptors_from p, reading-le (drop descriptors_from p) None no_kads);
       is = accepted p l h;
     }
 
@@ -198,3 +201,23 @@ unfolding head_rules scope_rules field_rules
 head-holds p h =
     hold-append (scope_rules p) (field_rules p) (eq-eqb _ _ h.code, (le-leb _ _ h.nexus_scope, (eq-eqb _ _ h.between, (le-leb _ _ h.set_scope, tt))))
     (le-leb _ _ h.encryption, (le-leb _ _ h.decryption, (le-leb _ _ h.index, (eq-eqb _ _ h.control, zeros-hold zeros_from (zero_bytes p) h.zeros))))
+
+-- ---- values or an answer
+
+-- values are told where the answer is 0
+pub ruled-done : (r : StatusRead) (status : Status) → ruled r ≡ Ok status → (is_done r.answer ≡ true) × (r.status ≡ status)
+ruled-done r status e = cases (is_done r.answer) (λ t. (t, ok-same (if-true _ _ _ t) e)) (λ f. absurd (ok-not-err (if-false _ _ _ f) e)) where
+  ok-same : {q : Result Status Answer} {x y : Status} → q ≡ Ok x → q ≡ Ok y → x ≡ y
+  ok-same d e = cc
+
+  ok-not-err : {q : Result Status Answer} {x : Status} {a : Answer} → q ≡ Err a → q ≡ Ok x → ⊥
+  ok-not-err d e = cc
+
+-- and otherwise the answer
+pub ruled-fault : (r : StatusRead) (a : Answer) → ruled r ≡ Err a → (is_done r.answer ≡ false) × (r.answer ≡ a)
+ruled-fault r a e = cases (is_done r.answer) (λ t. absurd (err-not-ok (if-true _ _ _ t) e)) (λ f. (f, err-same (if-false _ _ _ f) e)) where
+  err-same : {q : Result Status Answer} {a b : Answer} → q ≡ Err a → q ≡ Err b → a ≡ b
+  err-same d e = cc
+
+  err-not-ok : {q : Result Status Answer} {x : Status} {a : Answer} → q ≡ Ok x → q ≡ Err a → ⊥
+  err-not-ok d e = cc

@@ -33,11 +33,10 @@ use Rattle.status.specs.Pages.{status_code, page_of}
 use Rattle.status.specs.Bytes.{status_byte4, joined4, status_byte12, joined12}
 use Rattle.status.specs.Status.{status_fields, status_bytes, status_with, status_of, CodesInRange, InRange}
 use Rattle.status.specs.Rules.{descriptors_from, zero_bytes, head_rules}
-use Rattle.status.specs.Reading.{read_of, values_with, values, read_status}
+use Rattle.status.specs.Reading.{StatusRead, read_of, values_with, values, read_status}
 use Rattle.status.specs.declared.StatusByte4.{StatusByte4}
 use Rattle.status.specs.declared.StatusByte12.{StatusByte12}
 use Rattle.status.specs.declared.Status.{Status}
-use Rattle.status.specs.declared.StatusRead.{StatusRead}
 use Rattle.status.proofs.Bytes.{split-joined-4, joined-split-4, split-joined-12, joined-split-12}
 use Rattle.status.proofs.Reading.{all-good, Accepted, known, Head, head-is, head-holds}
 

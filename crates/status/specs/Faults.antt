@@ -1,9 +1,8 @@
 -- Document 02, request 6, in plain relations: what is wrong with a status page, and at which byte i, in document 01's order (proofs/Faults: the rules of
 -- `every_status_rule` break there and nowhere else). Of the descriptors kad/specs/Pointing has the like.
-use Rattle.std.specs.Prelude.{ℕ, ◌<◌, ◌≤◌, ◌≡◌, ◌⊎◌, List, length, drop}
+use Rattle.std.specs.Prelude.{ℕ, ◌<◌, ◌≤◌, ◌≡◌, ◌⊎◌, List, length, drop, None}
 use Rattle.wire.specs.Numbers.{byte_at, word_at}
 use Rattle.kad.specs.Pointing.{ListFault}
-use Rattle.kad.specs.declared.Seen.TheVariants.{Nothing}
 use Rattle.status.specs.Bytes.{status_byte4, status_byte12}
 
 -- "page code 0020h, fixed zeros zero, codes in range"
@@ -22,4 +21,4 @@ HeadFault p i =
 
 -- "and descriptors formed as above"
 abbrev pub StatusFault : List ℕ → ℕ → Type 0
-StatusFault p i = HeadFault p i ⊎ ListFault (length (drop 24 p)) 24 (drop 24 p) Nothing i
+StatusFault p i = HeadFault p i ⊎ ListFault (length (drop 24 p)) 24 (drop 24 p) None i

@@ -1,10 +1,9 @@
 -- Document 02, request 6, of the status reader: all rules of a status page in one list, in document 01's order, each with the byte that 02 has it
 -- point to. That the byte of answer 8 is the lowest of them is a theorem (`status-judged`).
-use Rattle.std.specs.Prelude.{ℕ, List, [], ◌∷◌, ◌++◌, leb, eqb, length, drop}
+use Rattle.std.specs.Prelude.{ℕ, List, [], ◌∷◌, ◌++◌, leb, eqb, length, drop, None}
 use Rattle.wire.specs.Numbers.{byte_at, word_at}
 use Rattle.wire.specs.Rules.{Rule, rule, zero_rules}
 use Rattle.kad.specs.Rules.{list_rules}
-use Rattle.kad.specs.declared.Seen.TheVariants.{Nothing}
 use Rattle.parameters.specs.Codes.{all_scope, encrypt, mixed, algorithm}
 use Rattle.status.specs.Pages.{status_code}
 use Rattle.status.specs.Bytes.{status_byte4, status_byte12}
@@ -34,4 +33,4 @@ every_head_rule p =
 
 -- "and descriptors formed as above (under any mode)"
 abbrev pub every_status_rule : List ℕ → List Rule
-every_status_rule p = let rest = drop descriptors_from p in every_head_rule p ++ list_rules (length rest) descriptors_from rest Nothing
+every_status_rule p = let rest = drop descriptors_from p in every_head_rule p ++ list_rules (length rest) descriptors_from rest None

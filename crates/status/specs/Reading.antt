@@ -1,11 +1,12 @@
 -- Document 01: "The status reader asks for 24 bytes at least and an exact length, else 7; then page code 0020h, fixed zeros zero,
 -- codes in range and descriptors formed as above (under any mode), else 8." Answer 8 carries the faulty byte (document 02, request 6).
-use Rattle.std.specs.Prelude.{ℕ, false, List, ltb, length, drop}
+use Rattle.std.specs.Prelude.{ℕ, false, List, ltb, length, drop, Result, Ok, Err}
 use Rattle.arrays.specs.Base.{when◌then◌else◌}
 use Rattle.wire.specs.Numbers.{byte_at, number_at}
 use Rattle.wire.specs.Rules.{length_wrong, breach}
-use Rattle.answer.specs.Answers.{sense_of}
+use Rattle.answer.specs.Answers.{is_done, sense_of}
 use Rattle.answer.specs.declared.Answer.{Answer}
+use Rattle.answer.specs.declared.Sense.{Sense}
 use Rattle.answer.specs.declared.Answer.TheVariants.{Done, PageLengthWrong, FieldWrong}
 use Rattle.kad.specs.Kad.{no_kads}
 use Rattle.kad.specs.Reading.{read_kads}
@@ -13,7 +14,12 @@ use Rattle.kad.specs.declared.Kads.{Kads}
 use Rattle.status.specs.Bytes.{status_byte4, status_byte12}
 use Rattle.status.specs.Rules.{descriptors_from, status_rules}
 use Rattle.status.specs.declared.Status.{Status}
-use Rattle.status.specs.declared.StatusRead.{StatusRead}
+
+-- what reading a status page gives: the answer, and the values (zeros where refused)
+pub record StatusRead : Type 0 where
+  pub answer : Answer
+  pub sense : Sense
+  pub status : Status
 
 -- the values that a page's bytes tell, with its key-associated data
 abbrev pub values_with : List ℕ → Kads → Status
@@ -59,3 +65,7 @@ read_status p =
     when length_wrong descriptors_from p then refused_status PageLengthWrong
     else when ltb fault (length p) then refused_status (FieldWrong fault)
     else read_of (values p)
+
+-- the values where it is done, and otherwise the answer
+abbrev pub ruled : StatusRead → Result Status Answer
+ruled r = when is_done r.answer then Ok r.status else Err r.answer

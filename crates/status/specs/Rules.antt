@@ -1,10 +1,9 @@
 -- Document 01: "The status reader asks for .. page code 0020h, fixed zeros zero, codes in range and descriptors formed as above".
 -- p is the page, a list of bytes. A rule names the byte that a fault points to; the rules stand in the order of the bytes.
-use Rattle.std.specs.Prelude.{ℕ, List, [], ◌∷◌, ◌++◌, leb, eqb, length, take, drop}
+use Rattle.std.specs.Prelude.{ℕ, List, [], ◌∷◌, ◌++◌, leb, eqb, length, take, drop, None}
 use Rattle.wire.specs.Numbers.{byte_at, word_at}
 use Rattle.wire.specs.Rules.{Rule, rule, zero_rules}
 use Rattle.kad.specs.Rules.{list_rules}
-use Rattle.kad.specs.declared.Seen.TheVariants.{Nothing}
 use Rattle.parameters.specs.Codes.{all_scope, encrypt, mixed, algorithm}
 use Rattle.status.specs.Pages.{status_code}
 use Rattle.status.specs.Bytes.{status_byte4, status_byte12}
@@ -48,4 +47,4 @@ head_rules p = scope_rules p ++ field_rules p
 
 -- all of them: "and descriptors formed as above (under any mode)"
 abbrev pub status_rules : List ℕ → List Rule
-status_rules p = let rest = drop descriptors_from p in head_rules p ++ list_rules (length rest) descriptors_from rest Nothing
+status_rules p = let rest = drop descriptors_from p in head_rules p ++ list_rules (length rest) descriptors_from rest None

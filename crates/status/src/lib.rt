@@ -1,7 +1,6 @@
 // What the response pages hold, and what reading a status page gives: see specs/ and proofs/. This crate has no function.
 #![tactic(auto)]
 
-use answer::{Answer, Sense};
 use kad::Kads;
 
 // The status page's byte 4.
@@ -46,12 +45,4 @@ impl Status {
         rdmd: false,
         kads: Kads::NONE,
     };
-}
-
-// What reading a status page gives: the answer, and the values (zeros where refused).
-#[derive(Clone, Copy)]
-pub struct StatusRead {
-    pub answer: Answer,
-    pub sense: Sense,
-    pub status: Status,
 }

@@ -4,21 +4,26 @@
 ghost use Rattle.std.specs.Prelude.{◌≡◌, ◌≤◌, ◌∷◌, ◌++◌, length};
 ghost use Rattle.wire.specs.Numbers.{two};
 ghost use Rattle.wire.specs.Buffers.{Shown};
-ghost use Rattle.wire.specs.Rules.{breach};
+ghost use Rattle.pointing.specs.Faulted.{faulted};
 ghost use Rattle.status.specs.Pages.{status_code, is_in_page, is_out_page, supported_in, supported_out, capabilities};
 ghost use Rattle.status.specs.Bytes.{status_byte4, joined4, status_byte12, joined12};
 ghost use Rattle.status.specs.Status.{status_fields, status_bytes, status_with};
 ghost use Rattle.status.specs.Rules.{descriptors_from, scope_rules, field_rules, head_rules};
-ghost use Rattle.status.specs.Reading.{values_with, refused_status, read_status};
+ghost use Rattle.status.specs.Reading.{values_with, read_status, ruled};
 
-use answer::{Answer, Sense};
+use answer::Answer;
 use device::Set;
 use kad::Kads;
-use status::{Status, StatusByte4, StatusByte12, StatusRead};
+use parameters::{ALL, ENCRYPT, MIXED};
+use pointing_code::{check_rule, check_zeros};
+use status::{Status, StatusByte4, StatusByte12};
+use wire_code::byte_at;
 
 const DESCRIPTORS_FROM: usize = 24;
 
-const ZEROS_FROM: usize = 13;
+const ZEROS_FROM: u8 = 13;
+
+const ZEROS_SIZE: u8 = 11;
 
 pub fn is_in_page(code: u16) -> bool
     ensures { result ≡ is_in_page code }
@@ -32,7 +37,7 @@ pub fn is_out_page(code: u16) -> bool
     code == 0x10
 }
 
-// Page 0000h.
+// Page 0000h. Each fixed page is one call of `wire_code::show`, which takes any page; a page's name says what it promises.
 pub fn write_supported_in(buffer: &mut [u8]) -> usize
     ensures { Shown supported_in buffer.old result buffer.new }
 {
@@ -56,6 +61,7 @@ pub fn write_capabilities(buffer: &mut [u8]) -> usize
     wire_code::show(&page, buffer)
 }
 
+// A function and no `From`: the type stands in `status`, and functions on it here.
 fn status_byte_4(b: u8) -> StatusByte4
     ensures { result ≡ status_byte4 b }
 {
@@ -153,110 +159,68 @@ pub fn status_with(scope: u8, set: Set) -> Status
     }
 }
 
-// The page code and byte 4: 5 where no rule breaks.
-fn open_fault(page: &[u8]) -> usize
-    requires { descriptors_from ≤ length page.now }
-    ensures { result ≡ breach (scope_rules page.now) 5 }
+// The page code and byte 4.
+#[tactic(auto, using(pointing::proofs::Faulted::tried), unfolding(status::specs::Rules::scope_rules))]
+fn check_scopes(page: &[u8]) -> Result<(), Answer>
+    ensures { result ≡ faulted (scope_rules page.now) }
 {
-    if wire_code::word_at(page, 0) != 0x20 {
-        return 0;
-    }
-    let byte4 = status_byte_4(page[4]);
-    if 2 < byte4.nexus_scope {
-        return 4;
-    }
-    if byte4.zeros != 0 {
-        return 4;
-    }
-    if 2 < byte4.set_scope {
-        return 4;
-    }
-    5
+    let byte4 = status_byte_4(byte_at(page, 4));
+    check_rule(0, wire_code::word_at(page, 0) == 0x20)?;
+    check_rule(4, byte4.nexus_scope <= ALL)?;
+    check_rule(4, byte4.zeros == 0)?;
+    check_rule(4, byte4.set_scope <= ALL)
 }
 
-// Bytes 5 to 23: 24 where no rule breaks.
-fn field_fault(page: &[u8]) -> usize
-    requires { descriptors_from ≤ length page.now }
-    ensures { result ≡ breach (field_rules page.now) descriptors_from }
+// Bytes 5 to 23.
+#[tactic(auto, using(pointing::proofs::Faulted::tried), unfolding(status::specs::Rules::field_rules))]
+fn check_fields(page: &[u8]) -> Result<(), Answer>
+    ensures { result ≡ faulted (field_rules page.now) }
 {
-    if 2 < page[5] {
-        return 5;
-    }
-    if 3 < page[6] {
-        return 6;
-    }
-    if 1 < page[7] {
-        return 7;
-    }
-    let byte12 = status_byte_12(page[12]);
-    if byte12.zeros != 0 {
-        return 12;
-    }
-    ZEROS_FROM + wire_code::first_not_zero(&page[ZEROS_FROM..DESCRIPTORS_FROM])
+    check_rule(5, byte_at(page, 5) <= ENCRYPT)?;
+    check_rule(6, byte_at(page, 6) <= MIXED)?;
+    check_rule(7, byte_at(page, 7) <= 1)?;
+    check_rule(12, status_byte_12(byte_at(page, 12)).zeros == 0)?;
+    check_zeros(page, ZEROS_FROM, ZEROS_SIZE)
 }
 
-// The bytes before the descriptors: 24 where no rule breaks.
-fn head_fault(page: &[u8]) -> usize
-    requires { descriptors_from ≤ length page.now }
-    ensures { result ≡ breach (head_rules page.now) descriptors_from }
+// The bytes before the descriptors.
+#[tactic(auto, using(pointing::proofs::Faulted::joined), unfolding(status::specs::Rules::head_rules))]
+fn check_head(page: &[u8]) -> Result<(), Answer>
+    ensures { result ≡ faulted (head_rules page.now) }
 {
-    let open = open_fault(page);
-    if open < 5 {
-        return open;
-    }
-    field_fault(page)
+    check_scopes(page)?;
+    check_fields(page)
 }
 
 // The values that a page's bytes tell, with its key-associated data.
 fn values_with(page: &[u8], kads: Kads) -> Status
-    requires { descriptors_from ≤ length page.now }
     ensures { result ≡ values_with page.now kads }
 {
-    let byte4 = status_byte_4(page[4]);
-    let byte12 = status_byte_12(page[12]);
+    let byte4 = status_byte_4(byte_at(page, 4));
+    let byte12 = status_byte_12(byte_at(page, 12));
     Status {
         nexus_scope: byte4.nexus_scope,
         set_scope: byte4.set_scope,
-        encryption: page[5],
-        decryption: page[6],
-        index: page[7],
-        number: wire_code::number(page[8], page[9], page[10], page[11]),
+        encryption: byte_at(page, 5),
+        decryption: byte_at(page, 6),
+        index: byte_at(page, 7),
+        number: wire_code::number_at(page, 8),
         ceems: byte12.ceems,
         rdmd: byte12.rdmd,
         kads,
     }
 }
 
-fn refuse(answer: Answer) -> StatusRead
-    ensures { result ≡ refused_status answer }
-{
-    StatusRead {
-        answer,
-        sense: answer_code::sense_of(answer),
-        status: Status::NONE,
-    }
-}
-
 // Reads a status page: its values, or answer 7, or answer 8 with the lowest faulty byte.
-pub fn read_status(page: &[u8]) -> StatusRead
-    ensures { result ≡ read_status page.now }
+pub fn read_status(page: &[u8]) -> Result<Status, Answer>
+    ensures { result ≡ ruled (read_status page.now) }
 {
     if wire_code::is_length_wrong(page, DESCRIPTORS_FROM) {
-        return refuse(Answer::PageLengthWrong);
+        return Err(Answer::PageLengthWrong);
     }
-    let head = head_fault(page);
-    if head < DESCRIPTORS_FROM {
-        return refuse(Answer::FieldWrong(head as u16));
-    }
+    check_head(page)?;
     let list = kad_code::read(&page[DESCRIPTORS_FROM..]);
     let end = DESCRIPTORS_FROM + list.good;
-    if end < page.len() {
-        return refuse(Answer::FieldWrong(end as u16));
-    }
-    let kads = list.kads;
-    StatusRead {
-        answer: Answer::Done,
-        sense: Sense::NONE,
-        status: values_with(page, kads),
-    }
+    check_rule(end as u16, page.len() <= end)?;
+    Ok(values_with(page, list.kads))
 }

@@ -23,9 +23,7 @@ fn give_in(r: Record, command: Command, size: usize, buffer: &mut [u8]) -> Reply
     let outcome = drive_16::security_in(r, command, &mut buffer[IN_FROM..IN_FROM + size]);
     let full = wire_code::two((outcome.length % 65536) as u16);
     wire_code::put(buffer, HEAD_SIZE, &full);
-    let answer = outcome.answer;
-    let after = outcome.after;
-    reply_16::reply_with(after, answer, 2 + size)
+    reply_16::reply_with(outcome.after, outcome.answer, 2 + size)
 }
 
 // A call of the drive's. IN lends a part of the reply's buffer.
@@ -58,11 +56,9 @@ fn give_batch(r: Record, bytes: &[u8], size: usize, buffer: &mut [u8]) -> Reply
         command_code::batch_pages(bytes),
         &mut buffer[HEAD_SIZE..HEAD_SIZE + size],
     );
-    let after = ran.after;
-    let verdict = ran.verdict;
     Reply {
-        after,
-        number: recording_code::verdict_number(verdict),
+        after: ran.after,
+        number: recording_code::verdict_number(ran.verdict),
         sense: Sense::NONE,
         length: size,
     }

@@ -177,9 +177,6 @@ pub record Reading (text : List ℕ) (i value : ℕ) : Type 0 where
   pub low : value ≤ read_most
   pub gives : at_most read_most (read_after value (drop i text)) ≡ at_most read_most (read_decimal text)
 
-pub reading-starts : (text : List ℕ) → Reading text 0 0
-reading-starts text = record { low = omega arith; gives = refl }
-
 module _ {text : List ℕ} {i value : ℕ} (l : Reading text i value) where
   -- one digit more
   pub reading-more : i < length text → {next : ℕ} → next ≡ at_most read_most (10 * value + (get_or text i 0 - zero_digit)) → Reading text (i + 1) next

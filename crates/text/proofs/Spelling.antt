@@ -2,10 +2,10 @@
 -- Assumes nothing.
 use Prim.Native.Nat.{ℕ, zero, suc, ◌*◌, ◌-◌, ◌/◌, ◌%◌, ◌^◌, ◌≤◌, ◌<◌}
 use mathlib.Core.Path.{◌≡◌, refl, sym, ap, subst, ◌∙◌}
-use mathlib.Core.List.{List, [], ◌∷◌, ◌++◌, append_assoc, append-nil}
+use mathlib.Core.List.{List, [], ◌∷◌, ◌++◌, append_assoc}
 use native.Mathlib.Nat.{not-suc-le-zero, le_of_suc-le-suc, pow-suc}
 use native.Mathlib.Omega.{arith}
-use lib.ListN.{length, drop, set, replicate, length-set, length-drop}
+use lib.ListN.{length, drop, set, length-set, length-drop}
 use Rattle.text.specs.Decimal.{digit, decimal}
 use Rattle.text.proofs.Decimal.{decimal-low, decimal-more}
 
@@ -22,10 +22,6 @@ pub record Spelling (n : ℕ) (text : List ℕ) (from rest : ℕ) : Type 0 where
   pub some : 0 < from
   pub fits : rest < 10 ^ from
   pub spelled : decimal rest ++ drop from text ≡ decimal n
-
--- no digit is written
-pub spell-starts : (n : ℕ) → n < 2 ^ 64 → Spelling n (replicate 20 0) 20 n
-spell-starts n h = record { held = refl; within = omega arith; some = omega arith; fits = omega (arith, h); spelled = append-nil (decimal n) }
 
 -- ten times as much needs a digit more
 tens : (rest from : ℕ) → 0 < from → 10 ≤ rest → rest < 10 ^ from → (1 < from) × (rest / 10 < 10 ^ (from - 1))

@@ -1,8 +1,7 @@
 -- Numbers in decimal.
-use Rattle.std.specs.Prelude.{ℕ, zero, suc, ◌+◌, ◌*◌, ◌-◌, ◌/◌, ◌%◌, Bool, true, false, ◌&&◌, List, [], ◌∷◌, ◌++◌, leb, ltb, length}
+use Rattle.std.specs.Prelude.{ℕ, zero, suc, ◌+◌, ◌*◌, ◌-◌, ◌/◌, ◌%◌, Bool, true, false, ◌&&◌, List, [], ◌∷◌, ◌++◌, leb, ltb, length, Option, Some, None}
 use Rattle.arrays.specs.Base.{when◌then◌else◌}
 use Rattle.arrays.specs.Arrays.{all}
-use Rattle.text.specs.declared.Number.{Number}
 
 -- the characters 0 to 9
 abbrev pub zero_digit : ℕ
@@ -39,12 +38,12 @@ read_decimal = read_after 0
 abbrev pub is_decimal : List ℕ → Bool
 is_decimal text = ltb 0 (length text) && all is_digit text
 
--- what a text reads as; a number above the most is told as that
+-- what a text reads as, nothing where it is no number; a number above the most is told as that
 abbrev pub read_most : ℕ
 read_most = 1000000000000000000
 
 abbrev pub at_most : (most n : ℕ) → ℕ
 at_most most n = when leb n most then n else most
 
-abbrev pub number_told : List ℕ → Number
-number_told text = record { decimal = is_decimal text; value = at_most read_most (read_decimal text) }
+abbrev pub number_told : List ℕ → Option ℕ
+number_told text = when is_decimal text then Some (at_most read_most (read_decimal text)) else None

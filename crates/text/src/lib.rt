@@ -10,19 +10,5 @@ pub const DIGITS_MOST: usize = 20;
 // A number that is read isn't told above this one.
 pub const READ_MOST: u64 = 1000000000000000000;
 
-// What a text reads as: whether it is digits alone, and its number.
-#[derive(Clone, Copy)]
-pub struct Number {
-    pub decimal: bool,
-    pub value: u64,
-}
-
 // The most bytes of lines made by value.
 pub const LINES_MOST: usize = 256;
-
-// A few lines, their first bytes; zeros after them.
-#[derive(Clone, Copy)]
-pub struct Lines {
-    pub bytes: [u8; LINES_MOST],
-    pub length: usize,
-}

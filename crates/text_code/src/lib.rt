@@ -4,9 +4,16 @@
 ghost use Rattle.std.specs.Prelude.{◌≡◌, ◌+◌, ◌*◌, ◌-◌, ◌≤◌, ◌<◌, length};
 ghost use Rattle.std.proofs.lemmas.List.Edits.{sets};
 ghost use Rattle.text.specs.Decimal.{zero_digit, digit, decimal, is_digit, read_most, at_most, number_told};
-ghost use Rattle.text.specs.Making.{lines_most, and_text};
+ghost use Rattle.text_code.specs.Telling.{and_text, text_of};
 
-use text::{DIGITS_MOST, LINES_MOST, Lines, Number, READ_MOST, ZERO_DIGIT};
+use text::{DIGITS_MOST, LINES_MOST, READ_MOST, ZERO_DIGIT};
+
+// A few lines by value, their first bytes; zeros after them. There is no heap, so their length stands beside them.
+#[derive(Clone, Copy)]
+pub struct Lines {
+    pub bytes: [u8; LINES_MOST],
+    pub length: usize,
+}
 
 // The character of a number below 10.
 fn digit(d: u64) -> u8
@@ -20,6 +27,7 @@ fn digit(d: u64) -> u8
 pub fn put_decimal(buffer: &mut [u8], at: usize, n: u64) -> usize
     ensures { (result ≡ length (decimal n)) × (buffer.new ≡ sets buffer.old at (decimal n)) }
 {
+    // From the last digit to the first: how many there are shows at the first alone.
     let mut text = [0u8; DIGITS_MOST];
     let mut from = DIGITS_MOST;
     let mut rest = n;
@@ -40,73 +48,64 @@ fn is_digit(c: u8) -> bool
     (ZERO_DIGIT <= c) & (c <= ZERO_DIGIT + 9)
 }
 
-// What a digit stands for.
-fn value_of(c: u8) -> u8
-    ensures { result ≡ c - zero_digit }
-{
-    if c < ZERO_DIGIT { 0 } else { c - ZERO_DIGIT }
-}
-
 // A number with one more digit, or the most.
 fn read_on(n: u64, c: u8) -> u64
     requires { n ≤ read_most }
     ensures { result ≡ at_most read_most (10 * n + (c - zero_digit)) }
 {
-    let more = 10 * n + value_of(c) as u64;
-    if more <= READ_MOST { more } else { READ_MOST }
+    (10 * n + c.saturating_sub(ZERO_DIGIT) as u64).min(READ_MOST)
 }
 
-// What a text reads as.
-pub fn read_decimal(text: &[u8]) -> Number
+// What a text reads as: a number, where it is digits alone.
+pub fn read_decimal(text: &[u8]) -> Option<u64>
     ensures { result ≡ number_told text.now }
 {
-    let mut digits = true;
+    if text.is_empty() {
+        return None;
+    }
     let mut value = 0;
-    for i in 0..text.len() {
-        digits = digits & is_digit(text[i]);
-        value = read_on(value, text[i]);
+    for c in text {
+        if !is_digit(*c) {
+            return None;
+        }
+        value = read_on(value, *c);
     }
-    Number {
-        decimal: (0 < text.len()) & digits,
-        value,
-    }
+    Some(value)
 }
 
-// A length of lines with so many bytes more, or the most.
-fn length_and(length: usize, more: usize) -> usize
-    ensures { result ≡ at_most lines_most (length + more) }
-{
-    if LINES_MOST < length {
-        return LINES_MOST;
-    }
-    if LINES_MOST - length < more {
-        return LINES_MOST;
-    }
-    length + more
-}
+impl Lines {
+    pub const NONE: Lines = Lines {
+        bytes: [0; LINES_MOST],
+        length: 0,
+    };
 
-// Lines with words more, as many of their bytes as there is room for.
-pub fn and_words(lines: Lines, words: &[u8]) -> Lines
-    ensures { result ≡ and_text lines words.now }
-{
-    let mut bytes = lines.bytes;
-    let at = lines.length;
-    wire_code::put(&mut bytes, at, words);
-    Lines {
-        bytes,
-        length: length_and(at, words.len()),
+    // So many bytes more, or the most.
+    fn grow(&mut self, more: usize)
+        ensures { self.new ≡ record self.old { length = at_most (length self.old.bytes) (self.old.length + more) } }
+    {
+        self.length = self.length.saturating_add(more).min(LINES_MOST);
     }
-}
 
-// Lines with a number more, of at most 20 digits.
-pub fn and_number(lines: Lines, n: u64) -> Lines
-    ensures { (result ≡ and_text lines (decimal n)) × (length (decimal n) ≤ 20) }
-{
-    let mut bytes = lines.bytes;
-    let at = lines.length;
-    let digits = put_decimal(&mut bytes, at, n);
-    Lines {
-        bytes,
-        length: length_and(at, digits),
+    // Puts words after them, as many of their bytes as there is room for.
+    pub fn put_words(&mut self, words: &[u8])
+        ensures { self.new ≡ and_text self.old words.now }
+    {
+        wire_code::put(&mut self.bytes, self.length, words);
+        self.grow(words.len());
+    }
+
+    // Puts a number after them, of at most 20 digits.
+    pub fn put_number(&mut self, n: u64)
+        ensures { (self.new ≡ and_text self.old (decimal n)) × (length (decimal n) ≤ 20) }
+    {
+        let digits = put_decimal(&mut self.bytes, self.length, n);
+        self.grow(digits);
+    }
+
+    // Their text.
+    pub fn text(&self) -> &[u8]
+        ensures { result.now ≡ text_of self.now }
+    {
+        &self.bytes[..self.length.min(LINES_MOST)]
     }
 }

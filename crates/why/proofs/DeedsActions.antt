@@ -1,5 +1,6 @@
 -- What actions leave in a place, and so what they did to it.
 -- Assumes nothing.
+use Rattle.std.specs.Prelude.{ℕ, Option, Some, None}
 use Prim.Native.Nat.{ℕ, ◌<◌}
 use mathlib.Core.Path.{◌≡◌, refl, sym, ap, subst, ◌∙◌}
 use mathlib.Core.Bool.{true, false, not, ◌||◌, or-false}
@@ -15,8 +16,6 @@ use Rattle.parameters.specs.declared.Fields.{Fields}
 use Rattle.device.specs.Record.{State, set_at, empty, used, established}
 use Rattle.device.specs.Updates.{numbered}
 use Rattle.device.specs.declared.Set.{Set}
-use Rattle.device.specs.declared.Found.{Found}
-use Rattle.device.specs.declared.Found.TheVariants.{At, Nowhere}
 use Rattle.places.specs.Actions.{Action, act, acts, releases, release_found, released_by}
 use Rattle.places.specs.declared.Event.{Event}
 use Rattle.places.proofs.Lengths.{act-size, acts-size}
@@ -63,9 +62,9 @@ pub event-releasing : (event : Event) (sets : List Set) → Releasing (releases 
 event-releasing event sets = releases-elim Releasing tt (λ place rest r. (refl, r)) (released_by event) sets
 
 -- and those of a nexus's own place
-pub found-releasing : (f : Found) → Releasing (release_found f)
-found-releasing (At place) = (refl, tt)
-found-releasing Nowhere = tt
+pub found-releasing : (f : Option ℕ) → Releasing (release_found f)
+found-releasing (Some place) = (refl, tt)
+found-releasing None = tt
 
 -- they leave a place empty if one of them is on it
 pub releasing-empty : (l : List Action) (s : State) (place : ℕ) → Releasing l → place < length s.sets → hits place l ≡ true → empty (set_at (acts s l) place) ≡ true

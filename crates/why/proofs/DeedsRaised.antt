@@ -1,5 +1,6 @@
 -- Who raises a flag of a nexus, and that it acted on the place whose set the nexus used.
 -- Assumes nothing.
+use Rattle.std.specs.Prelude.{ℕ, Option, Some, None}
 use Prim.Native.Nat.{ℕ, ◌≤◌}
 use mathlib.Core.Path.{◌≡◌, refl, sym, ap, ◌∙◌}
 use mathlib.Core.Bool.{Bool, true, false, not, ◌&&◌}
@@ -21,8 +22,6 @@ use Rattle.device.specs.declared.Marks.{Marks}
 use Rattle.device.specs.declared.Nexus.{Nexus}
 use Rattle.marks.specs.Marks.{remarked, changed, changes, is_actor, told, alerted, flagged}
 use Rattle.marks.specs.Reset.{unmarked, cleared}
-use Rattle.marks.specs.declared.Actor.{Actor}
-use Rattle.marks.specs.declared.Actor.TheVariants.{Nobody, Acting}
 use Rattle.places.specs.Actions.{Action, act, acts, releases, released_by, page_actions, sender_after, supplemented, taken}
 use Rattle.places.proofs.Sender.{taken-supplemental, taken-whole}
 use Rattle.drive.specs.Calls.{Call}
@@ -71,12 +70,12 @@ taken-marks s m page =
 
 -- what is asked of a flag of nexus n: a new nexus has it not, no answer sets it, and it is set only where the nexus is told, and only by an
 -- actor that passes the test, if that isn't the nexus itself
-record Flag (flag : Marks → Bool) (who : Actor → Bool) (n : ℕ) : Type 0 where
+record Flag (flag : Marks → Bool) (who : Option ℕ → Bool) (n : ℕ) : Type 0 where
   new : flag no_marks ≡ false
   answers : (change : Change) (m : Marks) → flag (changed change m) ≡ true → flag m ≡ true
-  alerts : (actor : Actor) (b : Bool) (m : Marks) → flag m ≡ false → flag (alerted actor b m) ≡ true → (b ≡ true) × (is_actor actor n ≡ false → who actor ≡ true)
+  alerts : (actor : Option ℕ) (b : Bool) (m : Marks) → flag m ≡ false → flag (alerted actor b m) ≡ true → (b ≡ true) × (is_actor actor n ≡ false → who actor ≡ true)
 
-module _ (flag : Marks → Bool) (who : Actor → Bool) (n : ℕ) (law : Flag flag who n) where
+module _ (flag : Marks → Bool) (who : Option ℕ → Bool) (n : ℕ) (law : Flag flag who n) where
   -- whether it is pending
   abbrev pending : State → Bool
   pending s = flag (nexus_at s n).marks
@@ -107,7 +106,7 @@ module _ (flag : Marks → Bool) (who : Actor → Bool) (n : ℕ) (law : Flag fl
   changed-raise s restarts p = clash p (ap (λ (x : Nexus). flag x.marks) (new-nexus (length s.nexuses) n) ∙ law.new)
 
   -- who is told of it
-  flagged-raise : (differ : ℕ → Bool) (actor : Actor) (s t : State) → pending t ≡ false → pending (flagged differ actor s t) ≡ true
+  flagged-raise : (differ : ℕ → Bool) (actor : Option ℕ) (s t : State) → pending t ≡ false → pending (flagged differ actor s t) ≡ true
       → (told differ s actor n ≡ true) × (is_actor actor n ≡ false → who actor ≡ true)
   unfolding flagged
   flagged-raise differ actor s t f p =
@@ -119,7 +118,7 @@ module _ (flag : Marks → Bool) (who : Actor → Bool) (n : ℕ) (law : Flag fl
       clash p (ap (λ (x : Nexus). flag x.marks) (get_or-eq_default (map_from tells 0 t.nexuses) new_nexus past) ∙ law.new))
 
   -- an effect of which nexuses are told
-  telling-raises : (s : State) (e : Effect) (actor : Actor) → is_restart e ≡ false → (is_actor actor n ≡ false → accepts n e ≡ false) → acts_by who e ≡ who actor → pending s ≡ false
+  telling-raises : (s : State) (e : Effect) (actor : Option ℕ) → is_restart e ≡ false → (is_actor actor n ≡ false → accepts n e ≡ false) → acts_by who e ≡ who actor → pending s ≡ false
       → pending (flagged (by_action (actions_of s e) s (changed_by s e)) actor s (changed_by s e)) ≡ true → RaisedBy who s n e
   telling-raises s e actor f other same off on =
       let still : pending (changed_by s e) ≡ false = cases (pending (changed_by s e)) (λ t. clash (changed-raise s e t) off) (λ z. z) in
@@ -133,7 +132,7 @@ module _ (flag : Marks → Bool) (who : Actor → Bool) (n : ℕ) (law : Flag fl
   unfolding carried_out
   effect-raises s nothing off on = clash (changed-raise s nothing on) off
   effect-raises s (marks m change) off on = clash (changed-raise s (marks m change) on) off
-  effect-raises s (takes m page) off on = telling-raises s (takes m page) (Acting m) refl (λ f. ap (λ b. b && not page.supplemental) f) refl off on
+  effect-raises s (takes m page) off on = telling-raises s (takes m page) (Some m) refl (λ f. ap (λ b. b && not page.supplemental) f) refl off on
   effect-raises s clears off on = clash (changed-raise s clears on) off
   effect-raises s (releasing event) off on = telling-raises s (releasing event) (actor_of event) refl (λ f. refl) refl off on
   effect-raises s restarts off on = clash (changed-raise s restarts on) off
@@ -156,9 +155,9 @@ another-flag n = record { new = refl; answers = answers; alerts = alerts }
     answers VendorCleared m p = p
     answers Registered m p = p
 
-    alerts : (actor : Actor) (b : Bool) (m : Marks) → m.another ≡ false → (alerted actor b m).another ≡ true → (b ≡ true) × (is_actor actor n ≡ false → is_other n actor ≡ true)
-    alerts Nobody b m f p = clash p f
-    alerts (Acting k) b m f p = (or-other m.another b p f, λ g. ap not g)
+    alerts : (actor : Option ℕ) (b : Bool) (m : Marks) → m.another ≡ false → (alerted actor b m).another ≡ true → (b ≡ true) × (is_actor actor n ≡ false → is_other n actor ≡ true)
+    alerts None b m f p = clash p f
+    alerts (Some k) b m f p = (or-other m.another b p f, λ g. ap not g)
 
 vendor-flag : (n : ℕ) → Flag (λ m. m.vendor) is_nobody n
 vendor-flag n = record { new = refl; answers = answers; alerts = alerts }
@@ -169,9 +168,9 @@ vendor-flag n = record { new = refl; answers = answers; alerts = alerts }
     answers VendorCleared m p = clash p refl
     answers Registered m p = p
 
-    alerts : (actor : Actor) (b : Bool) (m : Marks) → m.vendor ≡ false → (alerted actor b m).vendor ≡ true → (b ≡ true) × (is_actor actor n ≡ false → is_nobody actor ≡ true)
-    alerts Nobody b m f p = (or-other m.vendor b p f, λ g. refl)
-    alerts (Acting k) b m f p = clash p f
+    alerts : (actor : Option ℕ) (b : Bool) (m : Marks) → m.vendor ≡ false → (alerted actor b m).vendor ≡ true → (b ≡ true) × (is_actor actor n ≡ false → is_nobody actor ≡ true)
+    alerts None b m f p = (or-other m.vendor b p f, λ g. refl)
+    alerts (Some k) b m f p = clash p f
 
 -- "another nexus" is raised only by a page or a preempt of another nexus that acted on the place whose set the nexus used.
 pub another-touches : (s : State) (n : ℕ) (call : Call) → Low s (length (actions s call)) → is_raised (λ m. m.another) n s (after s call) ≡ true → RaisedBy (is_other n) s n (effect s call)

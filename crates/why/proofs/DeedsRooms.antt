@@ -1,5 +1,6 @@
 -- The place that a LOCAL page takes in a well-formed record, and the place whose set a nexus uses.
 -- Assumes nothing.
+use Rattle.std.specs.Prelude.{ℕ, Option, Some, None}
 use Prim.Native.Nat.{ℕ, ◌≤◌, ◌<◌}
 use mathlib.Core.Path.{◌≡◌, ap, subst}
 use mathlib.Core.Bool.{true, false, not}
@@ -15,8 +16,6 @@ use Rattle.parameters.specs.Codes.{local_scope}
 use Rattle.device.specs.Record.{State, set_at, nexus_at, no_set, empty, used}
 use Rattle.device.specs.Selecting.{owns, selected}
 use Rattle.device.specs.WellFormed.{well_formed}
-use Rattle.device.specs.declared.Found.{Found}
-use Rattle.device.specs.declared.Found.TheVariants.{At, Nowhere}
 use Rattle.device.proofs.Selecting.{Own, own, selected-shared, selected-local}
 use Rattle.places.specs.Actions.{empty_local, unlocked_local, free_at, evicting_at, room}
 use Rattle.places.specs.declared.Room.{Room}
@@ -51,22 +50,22 @@ module _ (s : State) (w : well_formed s ≡ true) where
       omega (arith, some, z)
 
   -- an empty place, where there is one, else one that is released
-  else-room : (m : ℕ) → held m s ≡ 0 → RoomFor s m (free_at (find At Nowhere empty_local s.sets) (evicting_at (find At Nowhere (unlocked_local s) s.sets)))
+  else-room : (m : ℕ) → held m s ≡ 0 → RoomFor s m (free_at (find Some None empty_local s.sets) (evicting_at (find Some None (unlocked_local s) s.sets)))
   else-room m z =
       cases (ltb 0 (count empty_local s.sets))
-      (λ t. find-counted empty_local no_set At Nowhere Rest s.sets vacant (ltb-true _ _ t))
+      (λ t. find-counted empty_local no_set Some None Rest s.sets vacant (ltb-true _ _ t))
       (λ f.
-      find-by At Nowhere empty_local no_set Rest s.sets vacant
-      (find-by At Nowhere (unlocked_local s) no_set (λ r. RoomFor s m (evicting_at r)) s.sets
+      find-by Some None empty_local no_set Rest s.sets vacant
+      (find-by Some None (unlocked_local s) no_set (λ r. RoomFor s m (evicting_at r)) s.sets
       (λ k l t. let later = not-zero k (and_left _ _ t) in
       let taken = filled (ltb-false _ _ f) k l (and_left _ _ t) in
       record { later = later; taken = taken; other = not-owner m k z l later taken; unlocked = not-true _ (and_right (not (eqb k 0)) _ t) })
       tt))
     where
-      Rest : Found → Type 0
-      Rest r = RoomFor s m (free_at r (evicting_at (find At Nowhere (unlocked_local s) s.sets)))
+      Rest : Option ℕ → Type 0
+      Rest r = RoomFor s m (free_at r (evicting_at (find Some None (unlocked_local s) s.sets)))
 
-      vacant : (k : ℕ) → k < length s.sets → empty_local k (set_at s k) ≡ true → Rest (At k)
+      vacant : (k : ℕ) → k < length s.sets → empty_local k (set_at s k) ≡ true → Rest (Some k)
       vacant k l t = record { later = not-zero k (and_left _ _ t); mine = λ u. clash u (ap not (and_right (not (eqb k 0)) _ t)) }
 
       filled : count empty_local s.sets ≤ 0 → (k : ℕ) → k < length s.sets → not (eqb k 0) ≡ true → used (set_at s k) ≡ true
@@ -79,7 +78,7 @@ module _ (s : State) (w : well_formed s ≡ true) where
   pub room_for : (m : ℕ) → RoomFor s m (room s m)
   unfolding room
   room_for m =
-      own-by s w m (λ f. RoomFor s m (free_at f (free_at (find At Nowhere empty_local s.sets) (evicting_at (find At Nowhere (unlocked_local s) s.sets)))))
+      own-by s w m (λ f. RoomFor s m (free_at f (free_at (find Some None empty_local s.sets) (evicting_at (find Some None (unlocked_local s) s.sets)))))
       (λ k l z o c. record { later = z; mine = λ u. (own s w m k o).owner })
       (else-room m)
 

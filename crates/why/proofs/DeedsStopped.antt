@@ -1,5 +1,6 @@
 -- What touches the set that a locked nexus uses, if not its own page: an event, or another nexus's ALL page while it uses place 0.
 -- Assumes nothing.
+use Rattle.std.specs.Prelude.{Some}
 use Prim.Native.Nat.{ℕ, ◌<◌}
 use mathlib.Core.Path.{◌≡◌, refl, sym, ap, ap₂, subst, ◌∙◌}
 use mathlib.Core.Bool.{true, false}
@@ -16,7 +17,6 @@ use Rattle.page.specs.declared.Page.{Page}
 use Rattle.device.specs.Record.{State, set_at, nexus_at, used}
 use Rattle.device.specs.Selecting.{selected}
 use Rattle.device.specs.WellFormed.{well_formed}
-use Rattle.device.specs.declared.Found.TheVariants.{At}
 use Rattle.device.proofs.Selecting.{Own, own, selected-within}
 use Rattle.places.specs.Actions.{Action, establish, acts, release_found, release_own, room, establish_in, page_actions}
 use Rattle.places.specs.declared.Room.{Room}
@@ -50,7 +50,7 @@ module _ (s : State) (w : well_formed s ≡ true) (n : ℕ) (locked : (nexus_at 
   unfolding hits
   unreleased =
       own-by s w m (λ f. hits place (release_found f) ≡ false)
-      (λ k l later o c. cases (hits place (release_found (At k))) (λ h. absurd (ne (sym (own s w m k o).owner ∙ (mine k (hit-one h) later).owner))) (λ f. f))
+      (λ k l later o c. cases (hits place (release_found (Some k))) (λ h. absurd (ne (sym (own s w m k o).owner ∙ (mine k (hit-one h) later).owner))) (λ f. f))
       (λ z. refl)
 
   -- nor does a LOCAL set of that nexus's take it

@@ -1,5 +1,6 @@
 -- A power-on in the middle of a session starts the reading for a write's cause again, and what comes after the events asked for is not read.
 -- Assumes nothing.
+use Rattle.std.specs.Prelude.{ℕ, Option, Some, None}
 use Prim.Native.Nat.{ℕ, suc, ◌+◌, ◌*◌, ◌≤◌, ◌<◌, ◌^◌}
 use mathlib.Core.Path.{◌≡◌, refl, sym, ap, ap₂, subst, ◌∙◌}
 use mathlib.Core.Bool.{Bool, true, false, not, ◌&&◌, ◌||◌}
@@ -17,8 +18,6 @@ use Rattle.answer.specs.Answers.{number_of}
 use Rattle.answer.specs.declared.Answer.{Answer}
 use Rattle.device.specs.Record.{State, power_on, nexus_at, no_marks}
 use Rattle.device.specs.Selecting.{selected, selected_set}
-use Rattle.device.specs.declared.Found.{Found}
-use Rattle.device.specs.declared.Found.TheVariants.{At, Nowhere}
 use Rattle.device.specs.declared.Marks.{Marks}
 use Rattle.drive.specs.Calls.{Call, power_up, write}
 use Rattle.drive.specs.Checks.{answer}
@@ -54,8 +53,8 @@ first-moved : (k place i : ℕ) (l : List Did) → first_touched place (k + i) l
 unfolding first_touched
 first-moved k place i [] = refl
 first-moved k place i (d ∷ l) =
-    ap (λ f. when hits place d.actions then At (k + i) else f) (ap (λ j. first_touched place j l) (sym (add-suc k i)) ∙ first-moved k place (suc i) l)
-    ∙ sym (if-map (later_found k) (hits place d.actions) (At i) (first_touched place (suc i) l))
+    ap (λ f. when hits place d.actions then Some (k + i) else f) (ap (λ j. first_touched place j l) (sym (add-suc k i)) ∙ first-moved k place (suc i) l)
+    ∙ sym (if-map (later_found k) (hits place d.actions) (Some i) (first_touched place (suc i) l))
 
 -- the reading of a history
 abbrev later_trail : (k : ℕ) → Trail → Trail
@@ -73,7 +72,7 @@ trail-moved n a l t x =
     ∙ ap (later_trail (length a)) (sym (trail-latest n l x t))
 
 -- the latest call that raised a flag which is pending at the end, whatever was found while it was clear
-raised-moved : (flag : Marks → Bool) (n k i : ℕ) (s : State) (l : List Call) (f g : Found) → (flag (nexus_at s n).marks ≡ true → f ≡ later_found k g)
+raised-moved : (flag : Marks → Bool) (n k i : ℕ) (s : State) (l : List Call) (f g : Option ℕ) → (flag (nexus_at s n).marks ≡ true → f ≡ later_found k g)
     → flag (nexus_at (run_from s l) n).marks ≡ true → fold_calls (raises flag n) (k + i) s l f ≡ later_found k (fold_calls (raises flag n) i s l g)
 unfolding fold_calls run_from
 raised-moved flag n k i s [] f g same pending = same pending
@@ -86,10 +85,10 @@ raised-moved flag n k i s (call ∷ l) f g same pending =
         cases (flag (nexus_at s n).marks)
         (λ t.
         let none : is_raised flag n s (after s call) ≡ false = ap₂ (λ x y. x && not y) on t in
-        if-false _ _ _ none ∙ same t ∙ ap (later_found k) (sym (if-false _ (At i) g none)))
+        if-false _ _ _ none ∙ same t ∙ ap (later_found k) (sym (if-false _ (Some i) g none)))
         (λ t.
         let one : is_raised flag n s (after s call) ≡ true = ap₂ (λ x y. x && not y) on t in
-        if-true _ _ _ one ∙ ap (later_found k) (sym (if-true _ (At i) g one)))
+        if-true _ _ _ one ∙ ap (later_found k) (sym (if-true _ (Some i) g one)))
 
 -- the touch that a number picks: each need only be known where it is picked
 touch-told : (k number place : ℕ) (first another vendor : Touch) {first' another' vendor' : Touch}
@@ -123,20 +122,20 @@ module _ (nexuses places n : ℕ) (a later : List Call) (anew : run nexuses plac
   before-moved i = ap (run nexuses places) (take-append-add a later i) ∙ run_moved (take i later)
 
   -- what the call that is found did
-  touch-moved : (f : Found) (place place' : ℕ → ℕ) → ((i : ℕ) → place' (length a + i) ≡ place i)
+  touch-moved : (f : Option ℕ) (place place' : ℕ → ℕ) → ((i : ℕ) → place' (length a + i) ≡ place i)
       → touch_found nexuses places (a ++ later) (later_found (length a) f) place' ≡ later_touch (length a) (touch_found nexuses places later f place)
-  touch-moved (At i) place place' e =
+  touch-moved (Some i) place place' e =
       let s = before nexuses places later in
       let next : before nexuses places (a ++ later) (suc (length a + i)) ≡ s (suc i) = ap (before nexuses places (a ++ later)) (sym (add-suc (length a) i)) ∙ before-moved (suc i) in
       ap₂ (λ x y. touch_by (length a + i) x y (place' (length a + i))) (before-moved i) next ∙ ap (touch_by (length a + i) (s i) (s (suc i))) (e i)
-  touch-moved Nowhere place place' e = refl
+  touch-moved None place place' e = refl
 
   -- 11, of a locked nexus
   stopper-moved : 0 < places → (places + 2) * length (a ++ later) < 2 ^ 32 → (nexus_at (run nexuses places later) n).lock ≡ true
       → stopper nexuses places n (a ++ later) ≡ later_touch (length a) (stopper nexuses places n later)
   unfolding stopper trail
   stopper-moved some few locked =
-      let unread : Trail = record { left = 0; first = Nowhere } in
+      let unread : Trail = record { left = 0; first = None } in
       let over : List Did → Trail = λ l. trail_over n 0 l unread in
       let shorter : length later ≤ length (a ++ later) = omega (arith, length-append a later) in
       let less : (places + 2) * length later < 2 ^ 32 = omega (arith, few, mul-le-mul_left (places + 2) shorter) in
@@ -156,11 +155,11 @@ module _ (nexuses places n : ℕ) (a later : List Call) (anew : run nexuses plac
   unfolding raised raiser run_from
   raiser-moved flag new pending =
       let used : List Call → ℕ → ℕ = λ calls i. selected (before nexuses places calls i) n in
-      let found : Found = fold_calls (raises flag n) 0 start a Nowhere in
+      let found : Option ℕ = fold_calls (raises flag n) 0 start a None in
       let moved : raised nexuses places flag n (a ++ later) ≡ later_found (length a) (raised nexuses places flag n later) =
-      fold-append (raises flag n) 0 start a later Nowhere (length a + 0) (omega arith)
+      fold-append (raises flag n) 0 start a later None (length a + 0) (omega arith)
       ∙ ap (λ s. fold_calls (raises flag n) (length a + 0) s later found) anew
-      ∙ raised-moved flag n (length a) 0 start later found Nowhere (λ t. clash t (power-clear nexuses places n later flag new)) pending in
+      ∙ raised-moved flag n (length a) 0 start later found None (λ t. clash t (power-clear nexuses places n later flag new)) pending in
       ap (λ f. touch_found nexuses places (a ++ later) f (used (a ++ later))) moved
       ∙ touch-moved (raised nexuses places flag n later) (used later) (used (a ++ later)) (λ i. ap (λ s. selected s n) (before-moved i))
 

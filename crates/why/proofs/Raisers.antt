@@ -1,5 +1,6 @@
 -- The reasons other than 11's: the call that raised a pending flag; the set in use; that 1 is never due, and 2 is to a nexus above the last.
 -- Assumes nothing.
+use Rattle.std.specs.Prelude.{ℕ, Option, Some, None}
 use Prim.Native.Nat.{ℕ, zero, suc, ◌+◌, ◌*◌, ◌≤◌, ◌<◌, ◌^◌}
 use mathlib.Core.Path.{◌≡◌, refl, sym, ap, subst, ◌∙◌}
 use mathlib.Core.Bool.{Bool, true, false, not, ◌&&◌, ◌||◌}
@@ -19,11 +20,8 @@ use Rattle.parameters.specs.Codes.{encrypt, encrypts}
 use Rattle.device.specs.Record.{State, power_on, nexus_at, no_marks}
 use Rattle.device.specs.Selecting.{selected, selected_set}
 use Rattle.device.specs.WellFormed.{well_formed}
-use Rattle.device.specs.declared.Found.{Found}
-use Rattle.device.specs.declared.Found.TheVariants.{At, Nowhere}
 use Rattle.device.specs.declared.Marks.{Marks}
 use Rattle.device.specs.declared.Nexus.{Nexus}
-use Rattle.marks.specs.declared.Actor.{Actor}
 use Rattle.places.proofs.Lengths.{power-places, power-nexuses}
 use Rattle.drive.specs.Calls.{Call, write}
 use Rattle.drive.specs.Checks.{answer_if, first_of, instance_changed, not_usable, checks, answer}
@@ -177,8 +175,8 @@ module _ (nexuses places : ℕ) (calls : List Call) (i : ℕ) (within : i < leng
   next-raised : (flag : Marks → Bool) (n : ℕ) → raised nexuses places flag n (take (suc i) calls) ≡ raises flag n i (before nexuses places calls i) (call_at calls i) (raised nexuses places flag n (take i calls))
   unfolding raised fold_calls
   next-raised flag n =
-      ap (λ l. fold_calls (raises flag n) 0 (power_on nexuses places) l Nowhere) (take-suc calls i _ within)
-      ∙ fold-append (raises flag n) 0 (power_on nexuses places) (take i calls) (call_at calls i ∷ []) Nowhere i (omega (arith, length-take-le i calls (omega (arith, within))))
+      ap (λ l. fold_calls (raises flag n) 0 (power_on nexuses places) l None) (take-suc calls i _ within)
+      ∙ fold-append (raises flag n) 0 (power_on nexuses places) (take i calls) (call_at calls i ∷ []) None i (omega (arith, length-take-le i calls (omega (arith, within))))
 
   -- so few calls leave room for the numbers that it draws
   next_low : 0 < places → (places + 2) * length calls < 2 ^ 32 → let s = before nexuses places calls i in Low s (length (actions s (call_at calls i)))
@@ -201,9 +199,9 @@ module _ (nexuses places n : ℕ) (calls : List Call) (flag : Marks → Bool) (n
   pending_at i = flag (nexus_at (before nexuses places calls i) n).marks
 
   -- the call found up to a position: the flag was clear before it, and is pending ever since
-  record Rise (i : ℕ) (found : Found) : Type 0 where
+  record Rise (i : ℕ) (found : Option ℕ) : Type 0 where
     position : ℕ
-    at : found ≡ At position
+    at : found ≡ Some position
     within : position < i
     clear : pending_at position ≡ false
     pending : (j : ℕ) → position < j → j ≤ i → pending_at j ≡ true
@@ -244,7 +242,7 @@ module _ (nexuses places n : ℕ) (calls : List Call) (flag : Marks → Bool) (n
       })
 
   -- where whoever raises it passes a test, so does the call that is found
-  raiser-raises : (who : Actor → Bool) → ((s : State) (call : Call) → Low s (length (actions s call)) → is_raised flag n s (after s call) ≡ true → RaisedBy who s n (effect s call))
+  raiser-raises : (who : Option ℕ → Bool) → ((s : State) (call : Call) → Low s (length (actions s call)) → is_raised flag n s (after s call) ≡ true → RaisedBy who s n (effect s call))
       → 0 < places → (places + 2) * length calls < 2 ^ 32 → flag (nexus_at (run nexuses places calls) n).marks ≡ true → Raises nexuses places n calls (raiser nexuses places flag n calls) flag who
   unfolding raiser
   raiser-raises who law room few p =
@@ -254,7 +252,7 @@ module _ (nexuses places n : ℕ) (calls : List Call) (flag : Marks → Bool) (n
       let s = before nexuses places calls i in
       let call = call_at calls i in
       let next = next-record nexuses places calls i r.within in
-      let found : raised nexuses places flag n calls ≡ At i = ap (raised nexuses places flag n) (sym whole) ∙ r.at in
+      let found : raised nexuses places flag n calls ≡ Some i = ap (raised nexuses places flag n) (sym whole) ∙ r.at in
       let touch : raiser nexuses places flag n calls ≡ touch_by i s (after s call) (selected s n) = ap (λ f. touch_found nexuses places calls f (λ j. selected (before nexuses places calls j) n)) found ∙ ap (λ t. touch_by i s t (selected s n)) next in
       record {
         position = i;

@@ -1,5 +1,6 @@
 -- A session read for one nexus as the code reads it, by the numbers of places, is what the definitions read, which look at none.
 -- Assumes nothing.
+use Rattle.std.specs.Prelude.{ℕ, Option, Some, None}
 use Prim.Native.Nat.{ℕ, suc, ◌+◌, ◌*◌, ◌≤◌, ◌<◌, ◌^◌}
 use mathlib.Core.Path.{◌≡◌, refl, sym, ap, ap₂, ◌∙◌}
 use mathlib.Core.Bool.{Bool, true, false, not, ◌&&◌}
@@ -13,8 +14,6 @@ use Rattle.arrays.specs.Base.{when◌then◌else◌}
 use Rattle.arrays.proofs.Base.{cases, if-true, if-false}
 use Rattle.device.specs.Record.{State, power_on, set_at}
 use Rattle.device.specs.Selecting.{selected, selected_set}
-use Rattle.device.specs.declared.Found.{Found}
-use Rattle.device.specs.declared.Found.TheVariants.{At, Nowhere}
 use Rattle.device.specs.declared.Marks.{Marks}
 use Rattle.device.proofs.Selecting.{selected-within}
 use Rattle.places.proofs.Lengths.{power-places}
@@ -68,40 +67,40 @@ module _ (nexuses places n : ℕ) where
         ∙ ap (λ t. after t call) here
 
     -- what it did in a place
-    pub touch-here : (place : ℕ → ℕ) → touch_found nexuses places calls (At i) place ≡ touch_by i s (after s call) (place i)
+    pub touch-here : (place : ℕ → ℕ) → touch_found nexuses places calls (Some i) place ≡ touch_by i s (after s call) (place i)
     touch-here place = ap₂ (λ x y. touch_by i x y (place i)) at_call past-call
 
     -- a flag that it raises is noted
-    flag-noted : (flag : Marks → Bool) (f : Found) {t : Touch} → t ≡ touch_found nexuses places calls f (used_at calls)
+    flag-noted : (flag : Marks → Bool) (f : Option ℕ) {t : Touch} → t ≡ touch_found nexuses places calls f (used_at calls)
         → (when is_raised flag n s (after s call) then touch_by i s (after s call) (selected s n) else t) ≡ touch_found nexuses places calls (raises flag n i s call f) (used_at calls)
     flag-noted flag f e =
         cases (is_raised flag n s (after s call))
         (λ t. if-true _ _ _ t ∙ sym (touch-here (λ k. selected s n)) ∙ again ∙ ap (λ g. touch_found nexuses places calls g (used_at calls)) (sym (if-true _ _ _ t)))
         (λ t. if-false _ _ _ t ∙ e ∙ ap (λ g. touch_found nexuses places calls g (used_at calls)) (sym (if-false _ _ _ t)))
       where
-        again : touch_found nexuses places calls (At i) (λ k. selected s n) ≡ touch_found nexuses places calls (At i) (used_at calls)
+        again : touch_found nexuses places calls (Some i) (λ k. selected s n) ≡ touch_found nexuses places calls (Some i) (used_at calls)
         again = ap (λ x. touch_by i (before nexuses places calls i) (before nexuses places calls (suc i)) (selected x n)) (sym at_call)
 
     -- the first call that acts on the place is noted
-    first-noted : (left : ℕ) (f : Found) {t : Touch} {hit : Bool} → t ≡ touch_found nexuses places calls f (λ k. left) → hit ≡ hits left (actions s call)
-        → first_noted t hit (touch_by i s (after s call) left) ≡ touch_found nexuses places calls (earlier f (when hits left (actions s call) then At i else Nowhere)) (λ k. left)
-    first-noted left (At j) {hit = hit} e h = ap (λ (x : Touch). first_noted x hit (touch_by i s (after s call) left)) e ∙ if-false (hit && false) _ _ (never hit)
+    first-noted : (left : ℕ) (f : Option ℕ) {t : Touch} {hit : Bool} → t ≡ touch_found nexuses places calls f (λ k. left) → hit ≡ hits left (actions s call)
+        → first_noted t hit (touch_by i s (after s call) left) ≡ touch_found nexuses places calls (earlier f (when hits left (actions s call) then Some i else None)) (λ k. left)
+    first-noted left (Some j) {hit = hit} e h = ap (λ (x : Touch). first_noted x hit (touch_by i s (after s call) left)) e ∙ if-false (hit && false) _ _ (never hit)
       where
         never : (b : Bool) → (b && false) ≡ false
         never true = refl
         never false = refl
-    first-noted left Nowhere {hit = hit} e h =
+    first-noted left None {hit = hit} e h =
         let hit-now : Bool = hits left (actions s call) in
         ap₂ (λ (x : Touch) (b : Bool). first_noted x b (touch_by i s (after s call) left)) e h
         ∙ either hit-now
       where
-        either : (b : Bool) → first_noted untouched b (touch_by i s (after s call) left) ≡ touch_found nexuses places calls (earlier Nowhere (when b then At i else Nowhere)) (λ k. left)
+        either : (b : Bool) → first_noted untouched b (touch_by i s (after s call) left) ≡ touch_found nexuses places calls (earlier None (when b then Some i else None)) (λ k. left)
         either true = sym (touch-here (λ k. left))
         either false = refl
 
   -- ---- what is read of a session so far
 
-  record Agrees (calls : List Call) (w : Watch) (t : Trail) (another vendor : Found) : Type 0 where
+  record Agrees (calls : List Call) (w : Watch) (t : Trail) (another vendor : Option ℕ) : Type 0 where
     left : w.left ≡ t.left
     first : w.first ≡ touch_found nexuses places calls t.first (λ i. t.left)
     anothers : w.another ≡ touch_found nexuses places calls another (used_at calls)
@@ -109,7 +108,7 @@ module _ (nexuses places n : ℕ) where
     inside : t.left < places
 
   module _ (done : List Call) (call : Call) (later : List Call) {calls : List Call} {i : ℕ} {s : State} (parts : calls ≡ done ++ call ∷ later) (counted : length done ≡ i) (here : run nexuses places done ≡ s)
-      (sized : length s.sets ≡ places) (low : Low s (length (actions s call))) {w : Watch} {t : Trail} {another vendor : Found} (a : Agrees calls w t another vendor) where
+      (sized : length s.sets ≡ places) (low : Low s (length (actions s call))) {w : Watch} {t : Trail} {another vendor : Option ℕ} (a : Agrees calls w t another vendor) where
     -- after one call more
     agrees-more : Agrees calls (watched n i s call w) (followed n i (did s call (after s call)) t) (raises (λ m. m.another) n i s call another) (raises (λ m. m.vendor) n i s call vendor)
     unfolding watched followed
@@ -138,7 +137,7 @@ module _ (nexuses places n : ℕ) where
 
   -- and after all that are left
   agrees-all : (later done : List Call) {calls : List Call} (i k : ℕ) (s : State) → calls ≡ done ++ later → length done ≡ i → run nexuses places done ≡ s → length s.sets ≡ places
-      → Sound s → Steady k s later → {w : Watch} {t : Trail} {another vendor : Found} → Agrees calls w t another vendor
+      → Sound s → Steady k s later → {w : Watch} {t : Trail} {another vendor : Option ℕ} → Agrees calls w t another vendor
       → Agrees calls (fold_calls (watched n) i s later w) (trail_over n i (ran_from s later) t) (fold_calls (raises (λ m. m.another) n) i s later another) (fold_calls (raises (λ m. m.vendor) n) i s later vendor)
   unfolding fold_calls trail_over ran_from
   agrees-all [] done i k s parts counted here sized sound steady a = a
@@ -171,10 +170,10 @@ unfolding trail stopper raised raiser run_from
 watched-is nexuses places n some calls few =
     let start = power_on nexuses places in
     let calm = few-calm nexuses places calls few in
-    let unread : Trail = record { left = 0; first = Nowhere } in
+    let unread : Trail = record { left = 0; first = None } in
     let read = ap (λ l. trail_over n 0 l unread) (reading-is-run nexuses places some calls calm).0 in
     let all = agrees-all nexuses places n calls [] 0 0 start refl refl refl (power-places nexuses places) (power-sound nexuses places) (power-steady nexuses places calls calm)
-    {w = unwatched} {t = unread} {another = Nowhere} {vendor = Nowhere} (record { left = refl; first = refl; anothers = refl; vendors = refl; inside = some }) in
+    {w = unwatched} {t = unread} {another = None} {vendor = None} (record { left = refl; first = refl; anothers = refl; vendors = refl; inside = some }) in
     let left = all.left ∙ ap (λ (t : Trail). t.left) (sym read) in
     let first = all.first ∙ ap (λ (t : Trail). touch_found nexuses places calls t.first (λ i. t.left)) (sym read) in
     λ i. record { left = left i; first = first i; another = all.anothers i; vendor = all.vendors i }

@@ -1,6 +1,7 @@
 -- 11: the call that a write's cause names is the first after the lock that acted on the set in use, and what it did there is what is told;
 -- and the event that `why` reads there is the one that records it.
 -- Assumes nothing.
+use Rattle.std.specs.Prelude.{ℕ, Option, Some, None}
 use Prim.Native.Nat.{ℕ, zero, suc, ◌+◌, ◌*◌, ◌≤◌, ◌<◌, ◌^◌}
 use mathlib.Core.Path.{◌≡◌, refl, sym, ap, ap₂, subst, subst₂, ◌∙◌}
 use mathlib.Core.Bool.{Bool, true, false, not, ◌&&◌, and_assoc}
@@ -16,8 +17,6 @@ use Rattle.answer.specs.declared.Answer.{Answer}
 use Rattle.answer.specs.declared.Answer.TheVariants.{NexusAbove}
 use Rattle.device.specs.Record.{State, power_on, set_at, nexus_at}
 use Rattle.device.specs.Selecting.{selected, selected_set}
-use Rattle.device.specs.declared.Found.{Found}
-use Rattle.device.specs.declared.Found.TheVariants.{At, Nowhere}
 use Rattle.places.proofs.Lengths.{power-places, power-nexuses}
 use Rattle.drive.specs.Calls.{Call, power_up}
 use Rattle.drive.specs.Checks.{check1, heard_of, permitted, checks, answer}
@@ -189,7 +188,7 @@ came n s₀ calls same x k f locked =
 
 -- so what is told of it is true
 told-true : (nexuses places : ℕ) → 0 < nexuses → 0 < places → (n : ℕ) (calls : List Call) {touch : Touch} (x : Latest n (reading nexuses places calls)) (position k : ℕ)
-    → touch ≡ touch_found nexuses places calls (At position) (λ i. place_left x) → position ≡ suc (length x.before) + k → First (place_left x) x.later k
+    → touch ≡ touch_found nexuses places calls (Some position) (λ i. place_left x) → position ≡ suc (length x.before) + k → First (place_left x) x.later k
     → Came n (power_on nexuses places) calls (place_left x) position → Stops nexuses places n calls touch
 told-true nexuses places some room n calls x position k told counted first c =
     let s : State = run nexuses places c.done in
@@ -214,9 +213,9 @@ told-true nexuses places some room n calls x position k told counted first c =
     }
 
 -- a position that is found
-found_at : (f : Found) → is_found f ≡ true → (i : ℕ) × (f ≡ At i)
-found_at (At i) e = (i, refl)
-found_at Nowhere e = clash e refl
+found_at : (f : Option ℕ) → is_found f ≡ true → (i : ℕ) × (f ≡ Some i)
+found_at (Some i) e = (i, refl)
+found_at None e = clash e refl
 
 -- A write that is answered 11 is told the true call: the first after the lock that established, replaced or released the set in use.
 pub stopper-true : (nexuses places : ℕ) → 0 < nexuses → 0 < places → (calls : List Call) → (places + 2) * length calls < 2 ^ 32 → (n : ℕ) → (supported : Bool)
@@ -234,7 +233,7 @@ stopper-true nexuses places some room calls few n supported eleven =
     let found = found_at (trail nexuses places n calls).first (sym t.2 ∙ stopped) in
     let which = t.3 found.0 found.1 in
     let same = (reading-is-run nexuses places room calls (few-calm nexuses places calls few)).0 in
-    let told = if-true _ _ _ stopped ∙ ap₂ (λ (f : Found) (p : ℕ). touch_found nexuses places calls f (λ i. p)) found.1 t.1 in
+    let told = if-true _ _ _ stopped ∙ ap₂ (λ (f : Option ℕ) (p : ℕ). touch_found nexuses places calls f (λ i. p)) found.1 t.1 in
     told-true nexuses places some room n calls t.0 found.0 which.0 told which.1 which.2
     (subst (Came n start calls (place_left t.0)) (sym which.1) (came n start calls (sym same) t.0 which.0 which.2 locked))
 
@@ -251,6 +250,6 @@ call-there pages (suc position) bytes h =
 
 -- In a sound file, the event whose kind and nexus `why` tells is the one that records the call at that position.
 pub kind-recorded : (file : List ℕ) → sound_file file ≡ true → (position : ℕ) → position < (header file).event_count
-    → call (page_bytes file) (event_at (event_bytes file) (At position)) ≡ call_at (calls_of file) position
+    → call (page_bytes file) (event_at (event_bytes file) (Some position)) ≡ call_at (calls_of file) position
 kind-recorded file sound position within =
     sym (call-there (page_bytes file) position (event_bytes file) (omega (arith, length-events file (sound-header file sound), within)))

@@ -1,5 +1,6 @@
 -- Laws of a session read for one nexus, call by call.
 -- Assumes nothing.
+use Rattle.std.specs.Prelude.{ℕ, Option, Some, None}
 use Prim.Native.Nat.{ℕ}
 use mathlib.Core.Path.{◌≡◌, refl, ap, ap₂, ◌∙◌}
 use mathlib.Core.Bool.{Bool, true, false, not, ◌&&◌}
@@ -13,8 +14,6 @@ use Rattle.answer.specs.declared.Change.{Change}
 use Rattle.answer.specs.declared.Change.TheVariants.{Unchanged, AnotherCleared, VendorCleared, Registered}
 use Rattle.device.specs.Record.{State, set_at, nexus_at}
 use Rattle.device.specs.declared.Marks.{Marks}
-use Rattle.marks.specs.declared.Actor.{Actor}
-use Rattle.marks.specs.declared.Actor.TheVariants.{Nobody, Acting}
 use Rattle.drive.specs.Calls.{Call, security_out, sender_of, is_power_up}
 use Rattle.drive.specs.Checks.{page_checked}
 use Rattle.drive.specs.Effects.{doing, refusal, effect_by, effect}
@@ -33,12 +32,12 @@ use Rattle.why.specs.Watching.{watched_by, watched}
 -- ---- the nexus's own page
 
 -- a refused call takes no page
-refused_none : (n : ℕ) (sender : Actor) (change : Change) → accepts n (refusal sender change) ≡ false
-refused_none n Nobody change = refl
-refused_none n (Acting m) Unchanged = refl
-refused_none n (Acting m) AnotherCleared = refl
-refused_none n (Acting m) VendorCleared = refl
-refused_none n (Acting m) Registered = refl
+refused_none : (n : ℕ) (sender : Option ℕ) (change : Change) → accepts n (refusal sender change) ≡ false
+refused_none n None change = refl
+refused_none n (Some m) Unchanged = refl
+refused_none n (Some m) AnotherCleared = refl
+refused_none n (Some m) VendorCleared = refl
+refused_none n (Some m) Registered = refl
 
 module _ (n : ℕ) (s : State) where
   -- nor does a call that isn't OUT

@@ -1,14 +1,12 @@
 -- Document 02, request 8: "a plain reason for a nexus's next write, given the volume's support: answer number, and for 11 the kind and
 -- position of the first call after the lock that established, replaced or released the set in use". Here of the calls since power-on,
 -- where there are that many nexuses and places; no instance number is looked at.
-use Rattle.std.specs.Prelude.{ℕ, suc, Bool, not, ◌&&◌, ◌||◌, List, eqb, take}
+use Rattle.std.specs.Prelude.{ℕ, suc, Bool, not, ◌&&◌, ◌||◌, List, eqb, take, Option, Some, None}
 use Rattle.arrays.specs.Base.{when◌then◌else◌}
 use Rattle.answer.specs.Answers.{number_of}
 use Rattle.answer.specs.declared.Answer.{Answer}
 use Rattle.device.specs.Record.{State, power_on, nexus_at}
 use Rattle.device.specs.Selecting.{selected, selected_set}
-use Rattle.device.specs.declared.Found.{Found}
-use Rattle.device.specs.declared.Found.TheVariants.{At, Nowhere}
 use Rattle.device.specs.declared.Marks.{Marks}
 use Rattle.drive.specs.Calls.{Call, write}
 use Rattle.drive.specs.Checks.{answer}
@@ -24,8 +22,8 @@ use Rattle.why.specs.Touches.{untouched, standing, touch_by}
 abbrev pub is_raised : (flag : Marks → Bool) → ℕ → (s t : State) → Bool
 is_raised flag n s t = flag (nexus_at t n).marks && not (flag (nexus_at s n).marks)
 
-abbrev pub raises : (flag : Marks → Bool) → (n i : ℕ) → State → Call → Found → Found
-raises flag n i s call found = when is_raised flag n s (after s call) then At i else found
+abbrev pub raises : (flag : Marks → Bool) → (n i : ℕ) → State → Call → Option ℕ → Option ℕ
+raises flag n i s call found = when is_raised flag n s (after s call) then Some i else found
 
 -- which of them answers a write: for 11 the call that touched the set, for 3 and 4 the one that raised the flag, for 0 and 12 the set in
 -- use; 1 and 2 have none
@@ -55,9 +53,9 @@ module _ (nexuses places : ℕ) where
   before calls i = run nexuses places (take i calls)
 
   -- what the call that is found did in a place
-  abbrev pub touch_found : List Call → Found → (place : ℕ → ℕ) → Touch
-  touch_found calls (At i) place = touch_by i (before calls i) (before calls (suc i)) (place i)
-  touch_found calls Nowhere place = untouched
+  abbrev pub touch_found : List Call → Option ℕ → (place : ℕ → ℕ) → Touch
+  touch_found calls (Some i) place = touch_by i (before calls i) (before calls (suc i)) (place i)
+  touch_found calls None place = untouched
 
   -- 11: "the first call after the lock that established, replaced or released the set in use": history's one reading of all calls has the
   -- place that the lock left the nexus using, and the first later call that acted on it
@@ -65,8 +63,8 @@ module _ (nexuses places : ℕ) where
   stopper n calls = let t = trail nexuses places n calls in touch_found calls t.first (λ i. t.left)
 
   -- 3 and 4: the latest call that raised the flag, and what it did to the set that the nexus used
-  unfoldable pub raised : (flag : Marks → Bool) → ℕ → List Call → Found
-  raised flag n calls = fold_calls (raises flag n) 0 (power_on nexuses places) calls Nowhere
+  unfoldable pub raised : (flag : Marks → Bool) → ℕ → List Call → Option ℕ
+  raised flag n calls = fold_calls (raises flag n) 0 (power_on nexuses places) calls None
 
   unfoldable pub raiser : (flag : Marks → Bool) → ℕ → List Call → Touch
   raiser flag n calls = touch_found calls (raised flag n calls) (λ i. selected (before calls i) n)

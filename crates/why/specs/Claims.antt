@@ -1,11 +1,9 @@
 -- What the table of reasons claims (proofs/Worked), and when a claim holds, on a drive of 16 nexuses and 5 places.
-use Rattle.std.specs.Prelude.{ℕ, Bool, true, false, ◌&&◌, List, [], ◌∷◌, ◌++◌, take}
+use Rattle.std.specs.Prelude.{ℕ, Bool, true, false, ◌&&◌, List, [], ◌∷◌, ◌++◌, take, Option, Some, None}
 use Rattle.answer.specs.Answers.{number_of}
 use Rattle.answer.specs.declared.Answer.{Answer}
 use Rattle.device.specs.Record.{power_on}
 use Rattle.device.specs.Selecting.{selected, selected_set}
-use Rattle.device.specs.declared.Found.{Found}
-use Rattle.device.specs.declared.Found.TheVariants.{At, Nowhere}
 use Rattle.drive.specs.Calls.{Call, write}
 use Rattle.drive.specs.Checks.{answer}
 use Rattle.drive.specs.Runs.{run}
@@ -43,7 +41,7 @@ asks_old file events nexus reason = record { file = file; events = events; nexus
 abbrev pub by_touch : Answer → (position kind nexus place : ℕ) → Deed → Reason
 by_touch a position kind nexus place deed = record {
   verdict = Done;
-  cause = record { answer = a; touch = record { at = At position; place = place; deed = deed }; mode = 0 };
+  cause = record { answer = a; touch = record { at = Some position; place = place; deed = deed }; mode = 0 };
   kind = kind;
   nexus = nexus;
 }
@@ -54,9 +52,9 @@ by_use a place mode = record { verdict = Done; cause = record { answer = a; touc
 
 -- ---- equal, number by number
 
-abbrev found_numbers : Found → List ℕ
-found_numbers (At i) = 1 ∷ i ∷ []
-found_numbers Nowhere = 0 ∷ 0 ∷ []
+abbrev found_numbers : Option ℕ → List ℕ
+found_numbers (Some i) = 1 ∷ i ∷ []
+found_numbers None = 0 ∷ 0 ∷ []
 
 abbrev deed_number : Deed → ℕ
 deed_number Untouched = 0

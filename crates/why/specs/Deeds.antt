@@ -1,13 +1,11 @@
 -- Document 01's words for what a call's actions do to a place, and what is claimed of the calls that `cause_of` names: which of them can
 -- touch the set that a locked nexus uses, and which can raise a flag.
-use Rattle.std.specs.Prelude.{ℕ, ◌≡◌, Bool, true, false, not, List, [], ◌∷◌, eqb}
+use Rattle.std.specs.Prelude.{ℕ, ◌≡◌, Bool, true, false, not, List, [], ◌∷◌, eqb, Option, Some, None}
 use Rattle.arrays.specs.Base.{when◌then◌else◌}
 use Rattle.parameters.specs.Codes.{all_scope}
 use Rattle.page.specs.declared.Page.{Page}
 use Rattle.device.specs.Record.{State, set_at, nexus_at, empty, used}
 use Rattle.device.specs.Selecting.{selected, selected_set}
-use Rattle.marks.specs.declared.Actor.{Actor}
-use Rattle.marks.specs.declared.Actor.TheVariants.{Nobody, Acting}
 use Rattle.places.specs.Actions.{Action}
 use Rattle.places.specs.declared.Event.{Event}
 use Rattle.drive.specs.Calls.{Call}
@@ -60,26 +58,26 @@ pub data StoppedBy (s : State) (n : ℕ) (call : Call) : Type 0 where
 -- ---- what raises a flag
 
 -- "'another nexus' for pages and preempt, 'vendor event' otherwise": another nexus acts, or nobody does
-abbrev pub is_other : ℕ → Actor → Bool
-is_other n Nobody = false
-is_other n (Acting m) = not (eqb m n)
+abbrev pub is_other : ℕ → Option ℕ → Bool
+is_other n None = false
+is_other n (Some m) = not (eqb m n)
 
-abbrev pub is_nobody : Actor → Bool
-is_nobody Nobody = true
-is_nobody (Acting m) = false
+abbrev pub is_nobody : Option ℕ → Bool
+is_nobody None = true
+is_nobody (Some m) = false
 
 -- "After a page or event": who acts in it passes a test
-abbrev pub acts_by : (who : Actor → Bool) → Effect → Bool
+abbrev pub acts_by : (who : Option ℕ → Bool) → Effect → Bool
 acts_by who nothing = false
 acts_by who (marks m change) = false
-acts_by who (takes m page) = who (Acting m)
+acts_by who (takes m page) = who (Some m)
 acts_by who clears = false
 acts_by who (releasing event) = who (actor_of event)
 acts_by who restarts = false
 
 -- an effect that raised a flag of the nexus: the nexus was "registered before", the effect is a page or an event that raises this flag, and
 -- it acted on the place whose set the nexus used
-pub record RaisedBy (who : Actor → Bool) (s : State) (n : ℕ) (e : Effect) : Type 0 where
+pub record RaisedBy (who : Option ℕ → Bool) (s : State) (n : ℕ) (e : Effect) : Type 0 where
   pub registered : (nexus_at s n).marks.registered ≡ true
   pub caused : acts_by who e ≡ true
   pub touches : hits (selected s n) (actions_of s e) ≡ true

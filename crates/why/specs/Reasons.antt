@@ -1,9 +1,7 @@
 -- Document 02, request 8: the reason from a recorded session, where there are that many nexuses and places.
-use Rattle.std.specs.Prelude.{ℕ, ◌*◌, Bool, List, [], leb, take, drop}
+use Rattle.std.specs.Prelude.{ℕ, ◌*◌, Bool, List, [], leb, take, drop, Option, Some, None}
 use Rattle.arrays.specs.Base.{when◌then◌else◌}
 use Rattle.answer.specs.declared.Answer.TheVariants as answers
-use Rattle.device.specs.declared.Found.{Found}
-use Rattle.device.specs.declared.Found.TheVariants.{At, Nowhere}
 use Rattle.recording.specs.Entries.{entry_size, entry_of}
 use Rattle.recording.specs.Files.{header, event_bytes, sound_file, calls_of}
 use Rattle.recording.specs.Verdicts.{is_taken}
@@ -20,9 +18,9 @@ unfoldable pub why_verdict : (file : List ℕ) → (events : ℕ) → Verdict
 why_verdict file events = when sound_file file then when leb events (header file).event_count then Done else EventsAbove else RecordingWrong
 
 -- the event at a position, as it is recorded; zeros where there is none
-abbrev pub event_at : (events : List ℕ) → Found → Entry
-event_at events (At i) = entry_of (drop (entry_size * i) events)
-event_at events Nowhere = entry_of []
+abbrev pub event_at : (events : List ℕ) → Option ℕ → Entry
+event_at events (Some i) = entry_of (drop (entry_size * i) events)
+event_at events None = entry_of []
 
 -- no reason is given
 abbrev pub no_cause : Cause

@@ -1,13 +1,10 @@
 -- What is claimed of a reason (proofs/Stoppers, Raisers, Truth, Parts): "The reason must be the true one".
-use Rattle.std.specs.Prelude.{ℕ, suc, ◌+◌, ◌≤◌, ◌<◌, ◌≡◌, Bool, true, false, List, ◌⊎◌, length, get_or, take}
+use Rattle.std.specs.Prelude.{ℕ, suc, ◌+◌, ◌≤◌, ◌<◌, ◌≡◌, Bool, true, false, List, ◌⊎◌, length, get_or, take, Option, Some, None}
 use Rattle.answer.specs.Answers.{number_of}
 use Rattle.parameters.specs.Codes.{encrypt}
 use Rattle.device.specs.Record.{State, nexus_at}
 use Rattle.device.specs.Selecting.{selected, selected_set}
-use Rattle.device.specs.declared.Found.{Found}
-use Rattle.device.specs.declared.Found.TheVariants.{At, Nowhere}
 use Rattle.device.specs.declared.Marks.{Marks}
-use Rattle.marks.specs.declared.Actor.{Actor}
 use Rattle.drive.specs.Calls.{Call, power_up, write}
 use Rattle.drive.specs.Checks.{answer}
 use Rattle.drive.specs.Effects.{effect}
@@ -36,7 +33,7 @@ module _ (nexuses places n : ℕ) (calls : List Call) (touch : Touch) where
   pub record Stops : Type 0 where
     pub lock : Latest n (reading nexuses places calls)
     pub position : ℕ
-    pub found : touch.at ≡ At position
+    pub found : touch.at ≡ Some position
     pub later : ℕ
     pub counted : position ≡ suc (length lock.before) + later
     pub within : position < length calls
@@ -47,9 +44,9 @@ module _ (nexuses places n : ℕ) (calls : List Call) (touch : Touch) where
 
   -- 3 and 4: before the call at the position the flag was clear, and it is pending ever since; the call acted on the place whose set the
   -- nexus used, and is one that raises this flag
-  pub record Raises (flag : Marks → Bool) (who : Actor → Bool) : Type 0 where
+  pub record Raises (flag : Marks → Bool) (who : Option ℕ → Bool) : Type 0 where
     pub position : ℕ
-    pub found : touch.at ≡ At position
+    pub found : touch.at ≡ Some position
     pub within : position < length calls
     pub clear : flag (nexus_at (before nexuses places calls position) n).marks ≡ false
     pub pending : (i : ℕ) → position < i → i ≤ length calls → flag (nexus_at (before nexuses places calls i) n).marks ≡ true
@@ -59,7 +56,7 @@ module _ (nexuses places n : ℕ) (calls : List Call) (touch : Touch) where
 
 -- 0 and 12: the set in use
 pub record InUse (s : State) (n : ℕ) (cause : Cause) : Type 0 where
-  pub untold : cause.touch.at ≡ Nowhere
+  pub untold : cause.touch.at ≡ None
   pub undone : cause.touch.deed ≡ Untouched
   pub place : cause.touch.place ≡ selected s n
   pub mode : cause.mode ≡ (selected_set s n).fields.encryption
@@ -78,16 +75,16 @@ pub record TrueReason (nexuses places : ℕ) (file : List ℕ) (events n : ℕ) 
   pub unusable : number_of r.cause.answer ≡ 12 → (r.cause.mode ≡ encrypt) × (supported ≡ false)
   pub bare : number_of r.cause.answer ≡ 2 → r.cause.touch ≡ untouched
   pub modeless : (number_of r.cause.answer ≡ 0 → ⊥) → (number_of r.cause.answer ≡ 12 → ⊥) → r.cause.mode ≡ 0
-  pub unrecorded : r.cause.touch.at ≡ Nowhere → (r.kind ≡ 0) × (r.nexus ≡ 0)
-  pub recorded : (position : ℕ) → r.cause.touch.at ≡ At position → position < events → let e = event_at (event_bytes file) (At position) in
+  pub unrecorded : r.cause.touch.at ≡ None → (r.kind ≡ 0) × (r.nexus ≡ 0)
+  pub recorded : (position : ℕ) → r.cause.touch.at ≡ Some position → position < events → let e = event_at (event_bytes file) (Some position) in
       (r.kind ≡ e.kind) × (r.nexus ≡ e.nexus) × (call (page_bytes file) e ≡ call_at (take events (calls_of file)) position)
 
 -- ---- a power-on in the middle
 
 -- a position, and a cause, counted from so many calls before
-abbrev pub later_found : (k : ℕ) → Found → Found
-later_found k (At i) = At (k + i)
-later_found k Nowhere = Nowhere
+abbrev pub later_found : (k : ℕ) → Option ℕ → Option ℕ
+later_found k (Some i) = Some (k + i)
+later_found k None = None
 
 abbrev pub later_touch : (k : ℕ) → Touch → Touch
 later_touch k touch = record { at = later_found k touch.at; place = touch.place; deed = touch.deed }

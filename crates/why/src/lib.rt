@@ -2,7 +2,6 @@
 #![tactic(auto)]
 
 use answer::Answer;
-use device::Found;
 use recording::Verdict;
 
 // What a call did to the set in a place.
@@ -18,14 +17,14 @@ pub enum Deed {
 // A call that touched a set: its position, the place, and what it did there.
 #[derive(Clone, Copy)]
 pub struct Touch {
-    pub at: Found,
+    pub at: Option<usize>,
     pub place: usize,
     pub deed: Deed,
 }
 
 impl Touch {
     pub const NONE: Touch = Touch {
-        at: Found::Nowhere,
+        at: None,
         place: 0,
         deed: Deed::Untouched,
     };
@@ -50,7 +49,8 @@ impl Watch {
     };
 }
 
-// How a write is answered, the touch that is the reason (with no position, the set in use), and that set's encryption mode.
+// How a write is answered, also where nothing stops it (so it is no Result), the touch that is the reason (with no position, the set in
+// use), and that set's encryption mode.
 #[derive(Clone, Copy)]
 pub struct Cause {
     pub answer: Answer,
@@ -58,7 +58,8 @@ pub struct Cause {
     pub mode: u8,
 }
 
-// The same of a recording, with the kind and the nexus that it has at the touch's position.
+// The same of a recording, with the kind and the nexus that it has at the touch's position. Not a Result: `TrueReason` speaks of the verdict
+// and of these together.
 #[derive(Clone, Copy)]
 pub struct Reason {
     pub verdict: Verdict,

@@ -18,7 +18,6 @@ ghost use Rattle.why_16.specs.Following.{followed_for};
 
 use answer::Answer;
 use calls::Asked;
-use device::Found;
 use device_16::{Device, Record};
 use drive::Command;
 use drive_16::Outcome;
@@ -66,7 +65,7 @@ fn touch_by(before: Device, after: Device, place: usize, i: usize) -> Touch
     ensures { result ≡ touch_by i (state before) (state after) place }
 {
     Touch {
-        at: Found::At(i),
+        at: Some(i),
         place,
         deed: deed_at(before, after, place),
     }
@@ -79,9 +78,10 @@ fn is_own_page(d: Device, n: u8, command: Command, page: &[u8], answer: Answer) 
     if !answer_code::is_done(answer) {
         return false;
     }
-    let checked = drive_16::check_page(d, command.nexus, page);
-    let read = checked.page;
-    (command.nexus == n) & !read.supplemental
+    match drive_16::check_page(d, command.nexus, page) {
+        Ok(read) => (command.nexus == n) & !read.supplemental,
+        Err(_) => command.nexus == n,
+    }
 }
 
 // A call with that answer is the lock: the nexus's own page.
@@ -89,13 +89,8 @@ fn is_lock(d: Device, n: u8, asked: Asked, page: &[u8], answer: Answer) -> bool
     ensures { result ≡ accepts n (effect_by (state d) (call_of asked page.now) answer) }
 {
     match asked {
-        Asked::PowerOn => false,
-        Asked::In(_) => false,
         Asked::Out(command) => is_own_page(d, n, command, page, answer),
-        Asked::Write(_, _) => false,
-        Asked::Read(_, _) => false,
-        Asked::UnitReset => false,
-        Asked::Happen(_) => false,
+        _ => false,
     }
 }
 
@@ -111,24 +106,17 @@ fn follow_lock(
 ) -> Watch
     ensures { result ≡ locked_by «lock» «power» n i (state before) (state after) w }
 {
-    let another = w.another;
-    let vendor = w.vendor;
     if lock {
         return Watch {
             left: device_16::selected(after, n as usize),
             first: Touch::NONE,
-            another,
-            vendor,
+            ..w
         };
     }
-    let left = w.left;
-    let first = w.first;
-    let touch = touch_by(before, after, left, i);
+    let touch = touch_by(before, after, w.left, i);
     Watch {
-        left,
-        first: why_code::note_first(first, is_renewed(power, before, after, left), touch),
-        another,
-        vendor,
+        first: why_code::note_first(w.first, is_renewed(power, before, after, w.left), touch),
+        ..w
     }
 }
 
@@ -136,20 +124,17 @@ fn follow_lock(
 fn follow_flags(w: Watch, n: u8, i: usize, before: Device, after: Device) -> Watch
     ensures { result ≡ flagged_by n i (state before) (state after) w }
 {
-    let old = device_16::nexus_at(before, n as usize);
-    let new = device_16::nexus_at(after, n as usize);
-    let was = old.marks;
-    let is = new.marks;
+    let was = device_16::nexus_at(before, n as usize).marks;
+    let is = device_16::nexus_at(after, n as usize).marks;
     let touch = touch_by(before, after, device_16::selected(before, n as usize), i);
-    let first = w.first;
-    let another = w.another;
-    let vendor = w.vendor;
-    Watch {
-        left: w.left,
-        first,
-        another: why_code::either(is.another & !was.another, touch, another),
-        vendor: why_code::either(is.vendor & !was.vendor, touch, vendor),
+    let mut watch = w;
+    if is.another & !was.another {
+        watch.another = touch;
     }
+    if is.vendor & !was.vendor {
+        watch.vendor = touch;
+    }
+    watch
 }
 
 // One call, at position i: a call that leaves the record as it is isn't followed.
@@ -164,9 +149,8 @@ fn follow_call(
 ) -> Watch
     ensures { result ≡ watched_with n i (state d) (call_of asked page.now) outcome.answer (state outcome.after.device) w }
 {
-    let answer = outcome.answer;
     let after = outcome.after.device;
-    let lock = is_lock(d, n, asked, page, answer);
+    let lock = is_lock(d, n, asked, page, outcome.answer);
     let locked = follow_lock(w, lock, calls_code::is_power_on(asked), n, i, d, after);
     follow_flags(locked, n, i, d, after)
 }
@@ -177,10 +161,8 @@ pub fn follow(events: &[u8], pages: &[u8], n: u8) -> Followed
 {
     let mut after = words_16::power_on();
     let mut watch = Watch::NONE;
-    let mut rest = events;
-    let mut i = 0;
-    while ENTRY_SIZE <= rest.len() {
-        let e = recording_code::entry_of(rest);
+    for (i, event) in events.chunks_exact(ENTRY_SIZE).enumerate() {
+        let e = recording_code::entry_of(event);
         let asked = recording_code::asked_of(e);
         let sight = calls_16::look(after.device, calls_code::sender_number(asked));
         let quiet = calls_code::quietly(true, NEXUSES, sight.nexus, sight.set, asked);
@@ -190,8 +172,6 @@ pub fn follow(events: &[u8], pages: &[u8], n: u8) -> Followed
             watch = follow_call(watch, n, i, after.device, asked, page, outcome);
             after = outcome.after;
         }
-        rest = &rest[ENTRY_SIZE..];
-        i += 1;
     }
     Followed { after, watch }
 }
@@ -202,22 +182,14 @@ fn cause_after(events: &[u8], pages: &[u8], n: u8, supported: bool) -> Cause
     ensures { result ≡ cause_of nexus_count place_count n supported (calls events.now pages.now) }
 {
     let followed = follow(events, pages, n);
-    let after = followed.after;
-    let tried = drive_16::write(after, n, supported);
-    let answer = tried.answer;
-    let row = answer_code::row_of(answer);
-    let number = row.number;
-    let device = after.device;
-    let sight = calls_16::look(device, n);
-    let set = sight.set;
+    let answer = drive_16::write(followed.after, n, supported).answer;
+    let number = answer_code::row_of(answer).number;
+    let device = followed.after.device;
+    let place = device_16::selected(device, n as usize);
     Cause {
         answer,
-        touch: why_code::touch_for(
-            number,
-            followed.watch,
-            device_16::selected(device, n as usize),
-        ),
-        mode: why_code::mode_for(number, set.fields.encryption),
+        touch: why_code::touch_for(number, followed.watch, place),
+        mode: why_code::mode_for(number, calls_16::look(device, n).set.fields.encryption),
     }
 }
 
@@ -243,16 +215,13 @@ pub fn why(file: &[u8], events: usize, nexus: u8, supported: bool) -> Reason
     if !recording_code::is_sound_file(file) {
         return refuse(Verdict::RecordingWrong);
     }
-    let header = recording_code::header_of(file);
-    if header.event_count < events {
+    if recording_code::header_of(file).event_count < events {
         return refuse(Verdict::EventsAbove);
     }
     let all = recording_code::events_of(file);
     let first = wire_code::part(all, 0, ENTRY_SIZE * events);
     let cause = cause_after(first, recording_code::pages_of(file), nexus, supported);
-    let touch = cause.touch;
-    let at = touch.at;
-    let e = why_code::event_at(all, at);
+    let e = why_code::event_at(all, cause.touch.at);
     Reason {
         verdict: Verdict::Done,
         cause,

@@ -2,8 +2,6 @@
 use Rattle.settled.specs.Settles.{SettlesAnswer, same}
 use Rattle.why_code.proofs.deed_of.Reads as deed-of
 use Rattle.why_code.proofs.deed_of.Kinds as deed-of-kinds
-use Rattle.why_code.proofs.either.Reads as either
-use Rattle.why_code.proofs.either.Kinds as either-kinds
 use Rattle.why_code.proofs.note_first.Reads as note-first
 use Rattle.why_code.proofs.note_first.Kinds as note-first-kinds
 use Rattle.why_code.proofs.touch_for.Reads as touch-for
@@ -15,9 +13,6 @@ use Rattle.why_code.proofs.event_at.Kinds as event-at-kinds
 
 pub deed-of-settles : SettlesAnswer 0 deed-of-kinds.ps deed-of-kinds.r deed-of.Post
 deed-of-settles κs a x y s t p q = same p q
-
-pub either_settles : SettlesAnswer 0 either-kinds.ps either-kinds.r either.Post
-either_settles κs a x y s t p q = same p q
 
 pub note-first-settles : SettlesAnswer 0 note-first-kinds.ps note-first-kinds.r note-first.Post
 note-first-settles κs a x y s t p q = same p q

@@ -2,15 +2,12 @@
 #![tactic(auto)]
 
 ghost use Rattle.std.specs.Prelude.{◌≡◌};
-ghost use Rattle.arrays.specs.Base.{when◌then◌else◌};
-ghost use Rattle.device.specs.declared.Found.TheVariants.{At};
-ghost use Rattle.history.specs.History.{is_found};
 ghost use Rattle.why.specs.Touches.{deed_of, standing};
 ghost use Rattle.why.specs.Causes.{touch_for, mode_for};
 ghost use Rattle.why.specs.Reasons.{event_at};
 ghost use Rattle.why.specs.Watching.{first_noted};
 
-use device::{Found, Set};
+use device::Set;
 use parameters::LOCAL;
 use recording::{ENTRY_SIZE, Entry};
 use why::{Deed, Touch, Watch};
@@ -31,77 +28,57 @@ pub fn deed_of(old: Set, new: Set) -> Deed
     Deed::Replaced
 }
 
-fn is_found(found: Found) -> bool
-    ensures { result ≡ is_found found }
-{
-    match found {
-        Found::At(_) => true,
-        Found::Nowhere => false,
-    }
-}
-
-// One of two.
-pub fn either(test: bool, touch: Touch, other: Touch) -> Touch
-    ensures { result ≡ when test then touch else other }
-{
-    if test { touch } else { other }
-}
-
 // The first touch stays; any other is the first if there was none.
 pub fn note_first(first: Touch, hit: bool, touch: Touch) -> Touch
     ensures { result ≡ first_noted first hit touch }
 {
-    let at = first.at;
-    either(hit & !is_found(at), touch, first)
+    if hit & first.at.is_none() {
+        touch
+    } else {
+        first
+    }
 }
 
-// The touch that answers a write with that number, or the set in use.
+// The touch that is why a write is answered so, or the set in use; by the number, of which every byte is taken (`touch_for`).
 pub fn touch_for(number: u8, watch: Watch, place: usize) -> Touch
     ensures { result ≡ touch_for number watch.first watch.another watch.vendor (standing place) }
 {
-    if number == 11 {
-        return watch.first;
-    }
-    if number == 3 {
-        return watch.another;
-    }
-    if number == 4 {
-        return watch.vendor;
-    }
-    if (number == 0) | (number == 12) {
-        return Touch {
-            at: Found::Nowhere,
+    match number {
+        11 => watch.first,
+        3 => watch.another,
+        4 => watch.vendor,
+        0 | 12 => Touch {
+            at: None,
             place,
             deed: Deed::Untouched,
-        };
+        },
+        _ => Touch::NONE,
     }
-    Touch::NONE
 }
 
-// The mode of the set in use, where the answer is by it.
+// The mode of the set in use, where the answer of that number is by it; every byte is taken (`mode_for`).
 pub fn mode_for(number: u8, mode: u8) -> u8
     ensures { result ≡ mode_for number mode }
 {
-    if (number == 0) | (number == 12) {
-        mode
-    } else {
-        0
+    match number {
+        0 | 12 => mode,
+        _ => 0,
     }
 }
 
 // The event at a position, as it is recorded.
-pub fn event_at(events: &[u8], at: Found) -> Entry
+pub fn event_at(events: &[u8], at: Option<usize>) -> Entry
     ensures { result ≡ event_at events.now at }
 {
     match at {
-        Found::At(i) => event_from(events, i),
-        Found::Nowhere => recording_code::entry_of(b""),
+        Some(i) => event_from(events, i),
+        None => recording_code::entry_of(b""),
     }
 }
 
 // What is past the end reads as 0.
 fn event_from(events: &[u8], i: usize) -> Entry
-    ensures { result ≡ event_at events.now (At i) }
+    ensures { result ≡ event_at events.now (Some i) }
 {
     if events.len() / ENTRY_SIZE < i {
         return recording_code::entry_of(b"");

@@ -6,5 +6,7 @@ pub mod Filling
 pub mod Bytes
 pub mod Parts
 pub mod Rules
+pub mod Tried
+pub mod Searches
 pub mod Lowest
 pub mod Worked

@@ -4,16 +4,14 @@ use mathlib.Core.Path.{◌≡◌, refl, sym, subst, ◌∙◌}
 use mathlib.Core.Bool.{Bool, true, false, ◌&&◌}
 use mathlib.Core.Logic.{◌⊎◌, inl, inr, ⊎_elim}
 use mathlib.Core.List.{List, [], ◌∷◌, ◌++◌}
-use Prim.Native.Nat.{ℕ, zero, suc, ◌+◌, ◌<◌, ◌≤◌}
+use Prim.Native.Nat.{ℕ, suc, ◌+◌, ◌<◌, ◌≤◌}
 use native.Mathlib.Omega.{arith}
-use native.Mathlib.Nat.{not-le_of_lt, le_refl, le_trans, add-zero, add-suc}
-use native.Mathlib.Numerals.{add-one}
+use native.Mathlib.Nat.{not-le_of_lt, le_refl, le_trans}
 use borrow.Author.Tests.{eq-eqb, ne_eqb}
 use lib.Dec.{eqb}
-use lib.ListN.{length, drop, get_or}
-use lib.Seq.{drop-cons}
+use lib.ListN.{length}
 use Rattle.arrays.specs.Base.{when◌then◌else◌}
-use Rattle.arrays.proofs.Base.{cases, clash, both, if-elim, if-map}
+use Rattle.arrays.proofs.Base.{cases, clash, both, if-elim}
 use Rattle.arrays.proofs.Laws.{all_cons}
 use Rattle.wire.specs.Buffers.{all_zero}
 use Rattle.wire.specs.Rules.{Rule, breach, BreaksAt, zero_rules}
@@ -76,50 +74,6 @@ rest (r ∷ xs) ys top m u l =
 pub under_more : (xs : List Rule) (m n : ℕ) → m ≤ n → Under m xs → Under n xs
 under_more [] m n l u = tt
 under_more (r ∷ xs) m n l u = (omega arith, under_more xs m n l u.1)
-
--- the rules before the kth hold, and the kth breaks
-abbrev pub Fails : List Rule → ℕ → Type 0
-Fails [] k = ⊥
-Fails (r ∷ rs) zero = r.holds ≡ false
-Fails (r ∷ rs) (suc k) = (r.holds ≡ true) × Fails rs k
-
--- the byte that the kth rule points to
-abbrev pub nth : List Rule → ℕ → ℕ
-nth [] k = 0
-nth (r ∷ rs) zero = r.at
-nth (r ∷ rs) (suc k) = nth rs k
-
--- the first breach is then the kth rule's byte
-pub fails : (rs : List Rule) (top k : ℕ) → Fails rs k → breach rs top ≡ nth rs k
-fails [] top k f = absurd f
-fails (r ∷ rs) top zero f = rw f
-fails (r ∷ rs) top (suc k) f = rw f.0 (fails rs top k f.1)
-
--- the kth rule holds
-abbrev pub Holds : List Rule → ℕ → Type 0
-Holds [] k = ⊥
-Holds (r ∷ rs) zero = r.holds ≡ true
-Holds (r ∷ rs) (suc k) = Holds rs k
-
--- the kth rule breaks
-abbrev pub Breaks : List Rule → ℕ → Type 0
-Breaks [] k = ⊥
-Breaks (r ∷ rs) zero = r.holds ≡ false
-Breaks (r ∷ rs) (suc k) = Breaks rs k
-
--- one rule at a time: it holds, and the others decide
-pub pass : (rs : List Rule) (top k : ℕ) → Holds rs k → breach (drop k rs) top ≡ breach (drop (suc k) rs) top
-pass [] top zero h = absurd h
-pass [] top (suc k) h = absurd h
-pass (r ∷ rs) top zero h = rw h
-pass (r ∷ rs) top (suc k) h = pass rs top k h
-
--- or it breaks
-pub stop : (rs : List Rule) (top k : ℕ) → Breaks rs k → breach (drop k rs) top ≡ nth rs k
-stop [] top zero h = absurd h
-stop [] top (suc k) h = absurd h
-stop (r ∷ rs) top zero h = rw h
-stop (r ∷ rs) top (suc k) h = stop rs top k h
 
 -- ---- two lists joined
 
@@ -218,21 +172,3 @@ zeros-hold i (b ∷ bytes) e = (eq-eqb b 0 (all-zero-first b bytes e), zeros-hol
 pub hold-zeros : (i : ℕ) (bytes : List ℕ) → AllHold (zero_rules i bytes) → all_zero bytes ≡ true
 hold-zeros i [] h = refl
 hold-zeros i (b ∷ bytes) h = all_cons (λ (x : ℕ). eqb x 0) b bytes ∙ both (eqb b 0) (all_zero bytes) h.0 (hold-zeros (suc i) bytes h.1)
-
--- each byte moved by i, a breach lies i further
-zeros-moved : (i k top : ℕ) (bytes : List ℕ) → breach (zero_rules (i + k) bytes) (i + top) ≡ i + breach (zero_rules k bytes) top
-zeros-moved i k top [] = refl
-zeros-moved i k top (b ∷ bytes) =
-    rw (← add-suc i k, zeros-moved i (suc k) top bytes) (sym (if-map (λ (n : ℕ). i + n) (eqb b 0) (breach (zero_rules (suc k) bytes) top) k))
-
--- from byte i on, a breach lies i further than from byte 0 on
-pub zeros-shift : (i top : ℕ) (bytes : List ℕ) → breach (zero_rules i bytes) (i + top) ≡ i + breach (zero_rules 0 bytes) top
-zeros-shift i top bytes = rw add-zero at (zeros-moved i 0 top bytes)
-
--- a search at a loop's index: the byte there is zero, and the rest decide
-pub zero-passes : (bytes : List ℕ) (top i : ℕ) → i < length bytes → get_or bytes i 0 ≡ 0 → breach (zero_rules i (drop i bytes)) top ≡ breach (zero_rules (i + 1) (drop (i + 1) bytes)) top
-zero-passes bytes top i h e = rw (add-one i, drop-cons bytes i 0 h) (simp (eq-eqb _ _ e))
-
--- or it is not, and is the breach
-pub zero-stops : (bytes : List ℕ) (top i : ℕ) → i < length bytes → (get_or bytes i 0 ≡ 0 → ⊥) → breach (zero_rules i (drop i bytes)) top ≡ i
-zero-stops bytes top i h n = rw (drop-cons bytes i 0 h) (simp (ne_eqb _ _ n))

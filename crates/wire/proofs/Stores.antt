@@ -2,13 +2,15 @@
 -- Assumes nothing.
 use mathlib.Core.Path.{◌≡◌, refl, sym, ap, ◌∙◌}
 use mathlib.Core.Bool.{true}
-use mathlib.Core.List.{List, [], ◌∷◌, ◌++◌, append_assoc}
-use Prim.Native.Nat.{ℕ, zero, suc, ◌+◌, ◌-◌, ◌<◌, ◌≤◌}
+use mathlib.Core.List.{List, [], ◌∷◌, ◌++◌, append_assoc, append-nil}
+use Prim.Native.Nat.{ℕ, zero, suc, ◌+◌, ◌-◌, ◌≤◌, min}
 use native.Mathlib.Nat.{add-zero, add-suc, suc-add, sub-zero, zero-sub, suc-sub-suc}
-use native.Mathlib.Numerals.{add-one}
 use native.Mathlib.Omega.{arith}
-use lib.ListN.{length, get_or, take, drop, set, replicate, length-append, length-drop, length-replicate, take-append-drop}
-use lib.Seq.{sets, sets-eq, length-sets, drop-cons, set_out, take_all, take_at, drop_at, take-append-le, take-take, drop-drop, length-take-le}
+use borrow.Author.Tests.{leb-true, leb-false}
+use lib.Dec.{leb}
+use lib.ListN.{length, take, drop, set, replicate, length-append, length-drop, length-replicate, take-append-drop, drop_of_length-le}
+use lib.Seq.{sets, sets-eq, length-sets, set_out, take_all, take_at, drop_at, take-append-le, take-take, drop-drop, length-take-le}
+use Rattle.arrays.proofs.Base.{cases}
 use Rattle.wire.specs.Buffers.{shown, padded, all_zero}
 use Rattle.wire.proofs.Zeros.{zeros-are, are-zeros}
 
@@ -16,10 +18,6 @@ use Rattle.wire.proofs.Zeros.{zeros-are, are-zeros}
 pub sets-out : (v l : List ℕ) (i : ℕ) → length l ≤ i → sets l i v ≡ l
 sets-out [] l i h = refl
 sets-out (x ∷ v) l i h = rw (set_out l i x h) (sets-out v l (suc i) (omega arith))
-
--- one store of a run, at a loop's index
-pub sets-step : (l : List ℕ) (i : ℕ) (v : List ℕ) (j : ℕ) → j < length v → sets l i (drop j v) ≡ sets (set l i (get_or v j 0)) (i + 1) (drop (j + 1) v)
-sets-step l i v j h = rw (add-one i, add-one j, drop-cons v j 0 h) refl
 
 -- two runs are one
 pub sets-append : (l : List ℕ) (i : ℕ) (v w : List ℕ) → sets (sets l i v) (i + length v) w ≡ sets l i (v ++ w)
@@ -93,3 +91,26 @@ part-stored b e v at n m h k l =
     let joined : take at b ++ v ++ (e ++ end) ≡ take at b ++ (v ++ e) ++ end =
     sym (append_assoc (take at b ++ v) e end) ∙ ap (λ (t : List ℕ). t ++ end) (append_assoc (take at b) v e) in
     sets-eq v whole at (omega arith) ∙ same ∙ joined ∙ sym (sets-eq (v ++ e) b at (omega arith))
+
+-- as many as fit are stored, from the index or the end on
+fitting : (l v : List ℕ) (i from size : ℕ) → from ≡ min i (length l) → size ≡ min (length v) (length l - from) → take from l ++ take size v ++ drop (from + size) l ≡ sets l i v
+fitting l v i from size f s =
+    let w : List ℕ = take size v in
+    let k : length w ≡ size = length-take-le size v (omega arith) in
+    let none : (m : List ℕ) → length m ≡ length l → sets m (from + length w) (drop size v) ≡ m =
+    λ m e. cases (leb (length v) size)
+    (λ t. rw (drop_of_length-le v {i = size} (leb-true (length v) size t)) refl)
+    (λ t. let r = leb-false (length v) size t in sets-out (drop size v) m (from + length w) (omega arith)) in
+    cases (leb i (length l))
+    (λ t.
+    let e : from ≡ i = omega (arith, leb-true i (length l) t) in
+    let whole : sets l from v ≡ sets l from w = sym (ap (sets l from) (take-append-drop size v)) ∙ sym (sets-append l from w (drop size v)) ∙ none (sets l from w) (length-sets l from w) in
+    sym (rw k at (sets-eq w l from (omega arith))) ∙ sym whole ∙ ap (λ (j : ℕ). sets l j v) e)
+    (λ t.
+    let r = leb-false i (length l) t in
+    let z : size ≡ 0 = omega arith in
+    rw (z, add-zero from, append-nil, take-append-drop) (sym (sets-out v l i (omega arith))))
+
+-- and in the parts that a slice to be written has
+pub sets-fitting : (l v : List ℕ) (i from size : ℕ) → from ≡ min i (length l) → size ≡ min (length v) (length l - from) → take from l ++ (take size v ++ drop size (drop from l)) ≡ sets l i v
+sets-fitting l v i from size f s = rw (drop-drop size from l, ← append_assoc (take from l) (take size v) (drop (from + size) l)) (fitting l v i from size f s)

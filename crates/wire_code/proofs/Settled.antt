@@ -2,6 +2,8 @@
 use Prim.Native.Nat.{ℕ}
 use mathlib.Core.Path.{refl}
 use mathlib.Core.List.{List}
+use mir.Syntax.{w64}
+use mir.Val.{Fits}
 use Rattle.settled.specs.Settles.{Settles, SettlesAnswer, SettlesPart, same, both-same}
 use Rattle.wire_code.proofs.byte_at.Reads as byte_at
 use Rattle.wire_code.proofs.byte_at.Kinds as byte-at-kinds
@@ -23,12 +25,8 @@ use Rattle.wire_code.proofs.put.Reads as put
 use Rattle.wire_code.proofs.put.Kinds as put-kinds
 use Rattle.wire_code.proofs.show.Reads as show
 use Rattle.wire_code.proofs.show.Kinds as show-kinds
-use Rattle.wire_code.proofs.padded_32.Reads as padded-32
-use Rattle.wire_code.proofs.padded_32.Kinds as padded-32-kinds
-use Rattle.wire_code.proofs.padded_12.Reads as padded-12
-use Rattle.wire_code.proofs.padded_12.Kinds as padded-12-kinds
-use Rattle.wire_code.proofs.first_not_zero.Reads as first-not-zero
-use Rattle.wire_code.proofs.first_not_zero.Kinds as first-not-zero-kinds
+use Rattle.wire_code.proofs.padded.Reads as padded
+use Rattle.wire_code.proofs.padded.Kinds as padded-kinds
 use Rattle.wire_code.proofs.all_zero.Reads as all-zero
 use Rattle.wire_code.proofs.all_zero.Kinds as all-zero-kinds
 use Rattle.wire_code.proofs.zero_from.Reads as zero-from
@@ -37,8 +35,8 @@ use Rattle.wire_code.proofs.is_length_wrong.Reads as is-length-wrong
 use Rattle.wire_code.proofs.is_length_wrong.Kinds as is-length-wrong-kinds
 use Rattle.wire_code.proofs.number_at.Reads as number_at
 use Rattle.wire_code.proofs.number_at.Kinds as number-at-kinds
-use Rattle.wire_code.proofs.is_same.Reads as is_same
-use Rattle.wire_code.proofs.is_same.Kinds as is-same-kinds
+use Rattle.wire_code.proofs.rest.Reads as rest
+use Rattle.wire_code.proofs.rest.Kinds as rest-kinds
 use Rattle.wire_code.proofs.part.Reads as part
 use Rattle.wire_code.proofs.part.Kinds as part-kinds
 
@@ -72,14 +70,8 @@ put-settles κs a x y s t p q = (refl, same p q)
 pub show-settles : Settles 2 show-kinds.ps show-kinds.r (List ℕ) (λ κs s. s.1.0.now) show.Post
 show-settles κs a x y s t p q = both-same p.tells p.holds q.tells q.holds
 
-pub padded-32-settles : SettlesAnswer 1 padded-32-kinds.ps padded-32-kinds.r padded-32.Post
-padded-32-settles κs a x y s t p q = same p q
-
-pub padded-12-settles : SettlesAnswer 1 padded-12-kinds.ps padded-12-kinds.r padded-12.Post
-padded-12-settles κs a x y s t p q = same p q
-
-pub first-not-zero-settles : SettlesAnswer 1 first-not-zero-kinds.ps first-not-zero-kinds.r first-not-zero.Post
-first-not-zero-settles κs a x y s t p q = same p q
+pub padded-settles : (n : ℕ) (f : Fits w64 n) → SettlesAnswer 2 (padded-kinds.ps n f) (padded-kinds.r n f) (padded.Post n f)
+padded-settles n f κs a x y s t p q = same p q
 
 pub all-zero-settles : SettlesAnswer 1 all-zero-kinds.ps all-zero-kinds.r all-zero.Post
 all-zero-settles κs a x y s t p q = same p q
@@ -93,8 +85,8 @@ is-length-wrong-settles κs a x y s t p q = same p q
 pub number-at-settles : SettlesAnswer 1 number-at-kinds.ps number-at-kinds.r number_at.Post
 number-at-settles κs a x y s t p q = same p q
 
-pub is-same-settles : SettlesAnswer 2 is-same-kinds.ps is-same-kinds.r is_same.Post
-is-same-settles κs a x y s t p q = same p q
-
 pub part-settles : SettlesPart 1 part-kinds.ps part-kinds.r (List ℕ) (λ κs x. x.now) part.Post
 part-settles κs a x y s t p q = same p q
+
+pub rest-settles : SettlesPart 1 rest-kinds.ps rest-kinds.r (List ℕ) (λ κs x. x.now) rest.Post
+rest-settles κs a x y s t p q = same p q

@@ -1,5 +1,6 @@
 -- The words made place by place are what the scopes say, of any record.
 -- Assumes nothing.
+use Rattle.std.specs.Prelude.{Some, None}
 use Prim.Native.Nat.{ℕ, ◌-◌, ◌%◌, ◌^◌, ◌≤◌, ◌<◌}
 use mathlib.Core.Path.{◌≡◌, refl, sym, ap, ◌∙◌}
 use mathlib.Core.Bool.{Bool, true, false, not, ◌&&◌, ◌||◌, and-false, or-true, or-false}
@@ -24,7 +25,6 @@ use Rattle.device.specs.Selecting.{owns, owned_place, or_else, place_of}
 use Rattle.device.specs.Words.{words}
 use Rattle.device.specs.declared.Set.{Set}
 use Rattle.device.specs.declared.Nexus.{Nexus}
-use Rattle.device.specs.declared.Found.TheVariants.{At, Nowhere}
 use Rattle.words.specs.Placing.{is_local, local_bit}
 use Rattle.words.proofs.Words.{words-by}
 
@@ -72,10 +72,10 @@ module _ (sets : List Set) where
       cases (is_local n x)
       (λ l. cases (some_below many (owned n))
       (λ t. some_first (owned n) many t (λ k h u v.
-      let found : owned_place sets n ≡ At k = find-lowest At Nowhere (λ place. owns n) no_set sets k h u
+      let found : owned_place sets n ≡ Some k = find-lowest Some None (λ place. owns n) no_set sets k h u
       (λ i g. cases (owned n i) (λ w. clash (some_at (owned n) k i g w) v) (λ w. w)) in
       first l k h u v (if-true (is_local n x) _ 0 l ∙ ap (λ f. or_else f 0) found)))
-      (λ f. none l f (if-true (is_local n x) _ 0 l ∙ find-by At Nowhere (λ place. owns n) no_set (λ r. or_else r 0 ≡ 0) sets (λ k h t. clash (some_at (owned n) many k h t) f) refl)))
+      (λ f. none l f (if-true (is_local n x) _ 0 l ∙ find-by Some None (λ place. owns n) no_set (λ r. or_else r 0 ≡ 0) sets (λ k h t. clash (some_at (owned n) many k h t) f) refl)))
       (λ f. other f (if-false (is_local n x) _ 0 f))
 
   -- a place other than 0 is selected by those that it takes first

@@ -21,8 +21,7 @@ fn locals_of(nexuses: [Nexus; NEXUSES]) -> u64
     ensures { result ≡ word_of is_local nexuses }
 {
     let mut locals: u64 = 0;
-    for n in 0..NEXUSES {
-        let nexus = nexuses[n];
+    for (n, nexus) in nexuses.iter().enumerate() {
         if nexus.scope == LOCAL {
             locals = locals | (1u64 << n);
         }
@@ -39,6 +38,7 @@ pub fn words_of(d: Device) -> [u64; PLACES]
     let locals = locals_of(nexuses);
     let mut words = [0u64; PLACES];
     let mut rest = locals;
+    // Two arrays in step, one of them written: an index is plainer.
     for place in 0..PLACES {
         let set = sets[place];
         let own = rest & words_code::local_bit(set, NEXUSES);
@@ -53,8 +53,10 @@ pub fn words_of(d: Device) -> [u64; PLACES]
 pub fn with_words(d: Device) -> Record
     ensures { result ≡ record_of (with_words (state d)) }
 {
-    let words = words_of(d);
-    Record { device: d, words }
+    Record {
+        device: d,
+        words: words_of(d),
+    }
 }
 
 // At power-on every nexus selects place 0.
@@ -69,9 +71,8 @@ fn held_by(sets: [Set; PLACES], words: [u64; PLACES]) -> Held
     ensures { result ≡ held_by sets words place_count }
 {
     let mut held = Held::NOTHING;
-    for place in 0..PLACES {
-        let set = sets[place];
-        held = words_code::hold(held, set, place, words[place]);
+    for (place, set) in sets.iter().enumerate() {
+        held = words_code::hold(held, *set, place, words[place]);
     }
     held
 }
@@ -81,10 +82,9 @@ fn scopes_fit(nexuses: [Nexus; NEXUSES], owners: u64, first: Set) -> bool
     ensures { result ≡ scopes_fit first owners nexuses }
 {
     let mut locals: u64 = 0;
-    for n in 0..NEXUSES {
-        let nexus = nexuses[n];
+    for (n, nexus) in nexuses.iter().enumerate() {
         if nexus.scope != PUBLIC {
-            if !words_code::nexus_fits(nexus, n, first) {
+            if !words_code::nexus_fits(*nexus, n, first) {
                 return false;
             }
             if nexus.scope == LOCAL {
@@ -113,19 +113,15 @@ pub fn formed(r: Record) -> bool
     ensures { result ≡ formed (worded r) }
 {
     let sets = r.device.sets;
-    for place in 0..PLACES {
-        let set = sets[place];
-        if !device_code::empty_is_zero(set) {
+    for set in &sets {
+        if !device_code::empty_is_zero(*set) {
             return false;
         }
     }
-    for place in 0..PLACES {
-        let set = sets[place];
-        if !device_code::used_fits(set, place, NEXUSES) {
+    for (place, set) in sets.iter().enumerate() {
+        if !device_code::used_fits(*set, place, NEXUSES) {
             return false;
         }
     }
-    let nexuses = r.device.nexuses;
-    let words = r.words;
-    selections_fit(sets, nexuses, words)
+    selections_fit(sets, r.device.nexuses, r.words)
 }

@@ -1,15 +1,8 @@
-use native.Mathlib.Omega.{arith}
+use mathlib.Core.List.{append_assoc, append-nil}
 use Rattle.wire.specs.Parts.{joined}
-use Rattle.text.proofs.Puts.{put_then, put-none}
+use Rattle.text_code.proofs.Telling.{and-then}
 use Rattle.claim_code.proofs.put_columns.Goals as goal
 
 pub returns : goal.returns
 unfolding joined
-returns c =
-    let encrypted = c.put_spaced-external.ensures in
-    let external = c.put_spaced-clear.ensures in
-    let clear = c.put_spaced-refused.ensures in
-    let refused = c.put_spaced.ensures in (
-      put_then encrypted.0 (put_then external.0 (put_then clear.0 (put_then refused.0 put-none))),
-      omega (arith, encrypted.1, external.1, clear.1, refused.1),
-    )
+returns c = simp (c.put_spaced-4.ensures, c.put_spaced-3.ensures, c.put_spaced-2.ensures, c.put_spaced.ensures, and-then, append_assoc, append-nil)

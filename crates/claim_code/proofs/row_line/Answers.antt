@@ -1,33 +1,20 @@
-use Prim.Native.Nat.{ℕ, ◌≤◌, ◌<◌, ◌^◌}
-use mathlib.Core.Path.{◌≡◌, refl}
-use lib.ListN.{length}
+use Prim.Native.Nat.{◌≤◌}
+use mathlib.Core.Path.{◌≡◌}
 use native.Mathlib.Omega.{arith}
+use lib.ListN.{length}
 use Rattle.text.specs.Characters.{bytes_of}
-use Rattle.text.specs.Decimal.{decimal}
-use Rattle.text.proofs.Puts.{put_is, put_then}
+use Rattle.text_code.specs.Telling.{told_lines}
+use Rattle.text_code.proofs.Telling.{and-then, told}
+use Rattle.claim.specs.Making.{line_most}
 use Rattle.claim.specs.Lines.{row_line}
-use Rattle.text.proofs.Decimal.{decimal-20}
-use Rattle.claim.proofs.Lines.{line_made}
+use Rattle.claim.proofs.Long.{row_line-most}
 use Rattle.claim_code.proofs.row_line.Goals as goal
 
--- the row's number has at most 20 digits
-few : (k n : ℕ) → n ≡ length (decimal k) → k < 2 ^ 64 → n ≤ 20
-few k n digits fits = omega (arith, digits, decimal-20 k fits)
-
-pub put_columns-end-requires : goal.put_columns-end-requires
-unfolding bytes_of row_line
-put_columns-end-requires c = few c.args.k _ c.put_decimal-at.ensures.0 (omega arith)
-
-pub overflow_add-result : goal.overflow_add-result
-unfolding bytes_of row_line
-overflow_add-result c = omega (arith, few c.args.k _ c.put_decimal-at.ensures.0 (omega arith), c.put_columns-end.ensures.1)
-
 pub returns : goal.returns
-unfolding bytes_of row_line
+unfolding bytes_of row_line told_lines
 returns c =
-    let a = c.args in
-    let k = c.put_decimal-at.ensures in (
-      line_made (row_line a.k a.row)
-          (put_then (put_then (put_is (decimal a.k) (omega (arith, k.0)) k.1) c.put_columns-end.ensures.0) (put_is (bytes_of "\n") refl c.put.ensures)),
-      omega (arith, few c.args.k _ c.put_decimal-at.ensures.0 (omega arith), c.put_columns-end.ensures.1),
-    )
+    let row = c.args.row in
+    let text = row_line c.args.k row in
+    let most : length text ≤ line_most = row_line-most row (omega (arith, c.well_formed)) (omega (arith, c.well_formed)) (omega (arith, c.well_formed)) (omega (arith, c.well_formed)) c.args.k (omega arith) in
+    let is : c.put_words.new.self ≡ told_lines text = simp (c.put_words.ensures, c.put_columns.ensures, c.put_number.ensures.0, and-then) (told text (omega (arith, most))) in
+    (is, rw is most)

@@ -1,20 +1,13 @@
 use borrow.Author.Rules.{rules}
-use Rattle.arrays.proofs.Loops.{seek-starts, seek-more, seek_finds, seek-ends}
-use Rattle.device.specs.Selecting.{owned_place}
+use borrow.Author.Tests.{tests}
+use mathlib.Core.Path.{◌∙◌}
+use Rattle.std.proofs.lemmas.Iterator.{YieldsList-from_slice}
+use Rattle.std.proofs.lemmas.Iterator.Search.{position_from_yields_List}
+use Rattle.device.specs.Selecting.{owns, owned_place}
+use Rattle.device_16.proofs.Reading.{position-found}
 use Rattle.device_16.proofs.owned_place.Goals as goal
-
-pub loop-place-init : goal.loop-place-init
-unfolding owned_place
-loop-place-init c = seek-starts (search rules)
-
-pub returns-then-is_owned : goal.returns-then-is_owned
-unfolding owned_place
-returns-then-is_owned c = seek_finds c.loop-place.invariant (search rules) _ c.is_owned.ensures c.if-is_owned.true
-
-pub loop-place-preserved : goal.loop-place-preserved
-unfolding owned_place
-loop-place-preserved c = seek-more c.loop-place.invariant (search rules) _ c.is_owned.ensures c.if-is_owned.false
 
 pub returns : goal.returns
 unfolding owned_place
-returns c = seek-ends c.loop-place.invariant (search rules)
+returns c =
+    position_from_yields_List (owns c.args.n) _ _ _ c.position.ensures.ran (YieldsList-from_slice c.args.sets c.iter.ensures.rest) (λ x b q k. search (rules, tests)) ∙ position-found (owns c.args.n) c.args.sets

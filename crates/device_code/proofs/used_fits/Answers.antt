@@ -6,6 +6,6 @@ pub returns-then-set-eq0 : goal.returns-then-set-eq0
 unfolding used_fits
 returns-then-set-eq0 c = simp (eq-eqb _ _ c.if-set-eq0.true)
 
-pub returns : goal.returns
+pub returns-else-set-eq0 : goal.returns-else-set-eq0
 unfolding used_fits
-returns c = simp (ne_eqb _ _ c.if-set-eq0.false, c.set_codes.ensures, c.set_tails.ensures, c.scope_fits.ensures)
+returns-else-set-eq0 c = simp (ne_eqb _ _ c.if-set-eq0.false, c.set_codes.ensures, c.set_tails.ensures, c.scope_fits.ensures)

@@ -11,11 +11,11 @@ use Rattle.marks_16.proofs.actor_bit.Goals as goal
 
 pub returns-then-m-lt-NEXUSES : goal.returns-then-m-lt-NEXUSES
 returns-then-m-lt-NEXUSES c =
-    let m = c.in-Acting.m in
+    let m = c.in-Some.m in
     let few : m < nexus_count = search rules in
-    shifted_one 64 m (omega (arith, few)) ∙ sym (ap (actor_bit nexus_count) c.in-Acting.is ∙ if-true _ _ _ (lt-ltb m nexus_count few))
+    shifted_one 64 m (omega (arith, few)) ∙ sym (ap (actor_bit nexus_count) c.in-Some.is ∙ if-true _ _ _ (lt-ltb m nexus_count few))
 
 pub returns-else-m-lt-NEXUSES : goal.returns-else-m-lt-NEXUSES
 returns-else-m-lt-NEXUSES c =
-    let m = c.in-Acting.m in
-    sym (ap (actor_bit nexus_count) c.in-Acting.is ∙ if-false _ _ _ (le-ltb m nexus_count (search rules)))
+    let m = c.in-Some.m in
+    sym (ap (actor_bit nexus_count) c.in-Some.is ∙ if-false _ _ _ (le-ltb m nexus_count (search rules)))

@@ -12,7 +12,7 @@ returns-then-keeps_marks c =
     let a = c.args in
     ap (λ (s : State). record_of (keeping a.r.words s))
     (sym (changes-left (state a.r.device) a.n a.change
-    (sym (c.keeps_marks.ensures ∙ ap (λ (x : Nexus). keeps_marks x.marks a.change) c.nexus_of-nexus.ensures) ∙ c.if-keeps_marks.true)))
+    (sym (c.keeps_marks.ensures ∙ ap (λ (x : Nexus). keeps_marks x.marks a.change) c.nexus_at-nexus.ensures) ∙ c.if-keeps_marks.true)))
 
 pub returns : goal.returns
-returns c = simp c.change_marks-device.ensures
+returns c = simp c.change_marks.ensures

@@ -3,4 +3,4 @@ use Rattle.marks_16.proofs.clear.Goals as goal
 
 pub returns : goal.returns
 unfolding cleared
-returns c = simp c.cleared-none.ensures
+returns c = simp c.cleared.ensures

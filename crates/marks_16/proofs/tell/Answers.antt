@@ -1,3 +1,4 @@
+use Rattle.std.specs.Prelude.{ℕ, Option}
 use borrow.Author.Rules.{rules}
 use Prim.Native.Nat.{ℕ}
 use mathlib.Core.Path.{◌≡◌, sym, ap, ap₂, ◌∙◌}
@@ -19,12 +20,11 @@ use Rattle.device_16.specs.declared.Record.{Record}
 use Rattle.words.specs.Changes.{changed_word}
 use Rattle.marks.specs.Marks.{remarked, alerted, flagged}
 use Rattle.marks.specs.Parts.{told_in, actor_bit, told_by}
-use Rattle.marks.specs.declared.Actor.{Actor}
 use Rattle.marks.proofs.Telling.{quiet}
 use Rattle.marks_16.proofs.tell.Goals as goal
 
 -- the record that is told, by the words and the word that the code made
-module _ (before : Record) (after : Device) (actor : Actor) (has : List ℕ) (word : ℕ) (places : length after.sets ≡ place_count) (anew : has ≡ words (state after))
+module _ (before : Record) (after : Device) (actor : Option ℕ) (has : List ℕ) (word : ℕ) (places : length after.sets ≡ place_count) (anew : has ≡ words (state after))
     (formed : word ≡ changed_word place_count before.device.sets after.sets before.words has) where
   changes : word ≡ changed_word (length after.sets) before.device.sets after.sets before.words (words (state after))
   changes = formed ∙ ap₂ (λ (k : ℕ) (l : List ℕ). changed_word k before.device.sets after.sets before.words l) (sym places) anew

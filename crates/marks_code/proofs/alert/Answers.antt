@@ -1,4 +1,4 @@
 use Rattle.marks_code.proofs.alert.Goals as goal
 
 pub returns : goal.returns
-returns c = simp c.alerted-after.ensures
+returns c = simp c.alerted.ensures

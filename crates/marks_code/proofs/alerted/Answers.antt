@@ -1,7 +1,7 @@
 use Rattle.marks_code.proofs.alerted.Goals as goal
 
-pub returns-in-Nobody : goal.returns-in-Nobody
-returns-in-Nobody c = cc
+pub returns-in-None : goal.returns-in-None
+returns-in-None c = cc
 
-pub returns-in-Acting : goal.returns-in-Acting
-returns-in-Acting c = cc
+pub returns-in-Some : goal.returns-in-Some
+returns-in-Some c = cc

@@ -1,4 +1,4 @@
 use Rattle.marks_code.proofs.remark.Goals as goal
 
 pub returns : goal.returns
-returns c = simp c.changed-after.ensures
+returns c = simp c.changed.ensures

@@ -12,7 +12,7 @@ use Rattle.places_16.proofs.act.Goals as goal
 
 pub returns-then-place-lt-PLACES : goal.returns-then-place-lt-PLACES
 unfolding act
-returns-then-place-lt-PLACES c = simp (c.draw-number.ensures, c.free_all-nexuses.ensures)
+returns-then-place-lt-PLACES c = simp (c.draw-number.ensures, c.free_all.ensures)
 
 pub returns-else-place-lt-PLACES : goal.returns-else-place-lt-PLACES
 unfolding act
@@ -20,4 +20,4 @@ returns-else-place-lt-PLACES c =
     let a = c.args in
     let l : length a.d.sets ≡ place_count = search (rules, sized-field) in
     let h : length a.d.sets ≤ a.place = omega arith in
-    simp (c.draw-number.ensures, c.free_all-nexuses.ensures, set_out a.d.sets a.place (numbered (drawn a.d.counter) a.contents) h)
+    simp (c.draw-number.ensures, c.free_all.ensures, set_out a.d.sets a.place (numbered (drawn a.d.counter) a.contents) h)

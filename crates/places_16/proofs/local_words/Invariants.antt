@@ -18,6 +18,3 @@ unlocked_by nexuses place set = not (eqb place 0) && not (get_or nexuses set.own
 abbrev pub invariant-loop-place : goal.invariant-loop-place
 invariant-loop-place l =
     (0 < l.place) × Worded empty_local place_count l.sets l.place l.empty × Worded (unlocked_by l.nexuses) place_count l.sets l.place l.unlocked
-
-abbrev pub decreases-loop-place : goal.decreases-loop-place
-decreases-loop-place l = l.place

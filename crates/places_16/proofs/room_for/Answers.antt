@@ -9,15 +9,15 @@ use Rattle.places.specs.Words.{room_by}
 use Rattle.places.proofs.Words.{room-by-words}
 use Rattle.places_16.proofs.room_for.Goals as goal
 
-pub returns-in-At : goal.returns-in-At
-returns-in-At c =
+pub returns-in-Some : goal.returns-in-Some
+returns-in-Some c =
     let a = c.args in
     let l : length a.d.sets ≡ place_count = search (rules, sized-field) in
-    rw (sym c.own_place.ensures ∙ c.in-At.is) at (room-by-words (state a.d) a.n (omega arith))
+    rw (sym c.own_place.ensures ∙ c.in-Some.is) at (room-by-words (state a.d) a.n (omega arith))
 
-pub returns-in-Nowhere : goal.returns-in-Nowhere
-returns-in-Nowhere c =
+pub returns-in-None : goal.returns-in-None
+returns-in-None c =
     let a = c.args in
     let l : length a.d.sets ≡ place_count = search (rules, sized-field) in
     c.room_by.ensures ∙ ap room_by c.local_words.ensures
-    ∙ (rw (sym c.own_place.ensures ∙ c.in-Nowhere.is) at (room-by-words (state a.d) a.n (omega arith)))
+    ∙ (rw (sym c.own_place.ensures ∙ c.in-None.is) at (room-by-words (state a.d) a.n (omega arith)))

@@ -3,5 +3,5 @@ use Rattle.places_code.proofs.free.Goals as goal
 pub returns-then-held : goal.returns-then-held
 returns-then-held c = simp c.if-held.true
 
-pub returns-else-held : goal.returns-else-held
-returns-else-held c = simp c.if-held.false
+pub returns : goal.returns
+returns c = simp c.if-held.false

@@ -3,4 +3,4 @@ use Rattle.record_16.proofs.device_of.Goals as goal
 
 pub returns : goal.returns
 unfolding record_read
-returns c = simp (c.sets_of-sets.ensures, c.nexuses_of-nexuses.ensures, c.number_at.ensures)
+returns c = simp (c.sets_of.ensures, c.nexuses_of.ensures, c.number_at.ensures)

@@ -20,5 +20,5 @@ returns c =
     let number = first in
     let r = worded number.args.r in
     let zeros = replicate (record_size nexus_count place_count) 0 in
-    let counter : first.put.new.buffer ≡ sets zeros 0 (four r.state.counter) = first.put.ensures ∙ ap (sets zeros 0) number.four-counter.ensures in
+    let counter : first.put.new.buffer ≡ sets zeros 0 (four r.state.counter) = first.put.ensures ∙ ap (sets zeros 0) number.four.ensures in
     four_runs zeros (four r.state.counter) (sets_part r) (nexuses_part r) (words_part r) counter_size (nexuses_from place_count) (words_from nexus_count place_count) counter second.0 third.0 fourth.0 refl (omega (arith, second.1)) (omega (arith, third.1)) (omega (arith, fourth.1))

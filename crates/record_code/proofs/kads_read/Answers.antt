@@ -3,4 +3,4 @@ use Rattle.record_code.proofs.kads_read.Goals as goal
 
 pub returns : goal.returns
 unfolding kads_read
-returns c = simp (c.bytes_32_at-u.ensures, c.bytes_12_at-a.ensures, c.byte_at.ensures, c.byte_at-2.ensures)
+returns c = simp (c.bytes_at-u.ensures, c.bytes_at-a.ensures, c.byte_at.ensures, c.byte_at-2.ensures)

@@ -1,41 +1,39 @@
-use mathlib.Core.Path.{sym, ap}
+use mathlib.Core.Path.{◌≡◌}
+use mathlib.Core.Logic.{inl, inr}
 use native.Mathlib.Omega.{arith}
-use Rattle.text.specs.Characters.{bytes_of}
-use Rattle.text.proofs.Puts.{put_as}
+use Rattle.std.proofs.lemmas.Grind.{common_steps}
+use Rattle.answer.specs.Answers.{number_of}
 use Rattle.sentence.specs.Telling.{sentence_by}
-use Rattle.sentence.proofs.Ways.{sentence-pending, sentence-other}
+use Rattle.text.specs.Characters.{bytes_of}
 use Rattle.sentence_code.proofs.put_sentence.Goals as goal
 
-pub returns-in-0 : goal.returns-in-0
+pub returns-in-Done : goal.returns-in-Done
 unfolding bytes_of sentence_by
-returns-in-0 c = let said = c.put_allowed.ensures in (put_as (sym (ap (λ n. sentence_by n c.args.reason) c.in-0.is)) said.0, omega (arith, said.1))
+returns-in-Done c = simp (c.put_allowed.ensures, c.in-Done.is)
 
-pub returns-in-1 : goal.returns-in-1
+pub returns-in-NotWellFormed : goal.returns-in-NotWellFormed
 unfolding bytes_of sentence_by
-returns-in-1 c = let said = c.put_words.ensures in (put_as (sym (ap (λ n. sentence_by n c.args.reason) c.in-1.is)) said, omega (arith, said.tells))
+returns-in-NotWellFormed c = simp (c.put_words.ensures, c.in-NotWellFormed.is)
 
-pub returns-in-2 : goal.returns-in-2
+pub returns-in-NexusAbove : goal.returns-in-NexusAbove
 unfolding bytes_of sentence_by
-returns-in-2 c = let said = c.put_words-in-2.ensures in (put_as (sym (ap (λ n. sentence_by n c.args.reason) c.in-2.is)) said, omega (arith, said.tells))
+returns-in-NexusAbove c = simp (c.put_words-in-NexusAbove.ensures, c.in-NexusAbove.is)
 
-pub returns-in-11 : goal.returns-in-11
+pub returns-in-ChangedByAnotherNexus : goal.returns-in-ChangedByAnotherNexus
 unfolding bytes_of sentence_by
-returns-in-11 c = let said = c.put_stopped.ensures in (put_as (sym (ap (λ n. sentence_by n c.args.reason) c.in-11.is)) said.0, omega (arith, said.1))
+returns-in-ChangedByAnotherNexus c =
+    elim c.in-ChangedByAnotherNexus.is [ inl e ↦ simp (c.put_stopped.ensures, e) | inr e ↦ simp (c.put_stopped.ensures, e) ]
 
-pub returns-in-12 : goal.returns-in-12
+pub returns-in-KeyInstanceChanged : goal.returns-in-KeyInstanceChanged
 unfolding bytes_of sentence_by
-returns-in-12 c = let said = c.put_unsupported.ensures in (put_as (sym (ap (λ n. sentence_by n c.args.reason) c.in-12.is)) said.0, omega (arith, said.1))
+returns-in-KeyInstanceChanged c = simp (c.put_stopped-in-KeyInstanceChanged.ensures, c.in-KeyInstanceChanged.is)
 
-pub returns-in-3 : goal.returns-in-3
+pub returns-in-ParametersNotUsable : goal.returns-in-ParametersNotUsable
 unfolding bytes_of sentence_by
-returns-in-3 c =
-    let said = c.put_stopped-in-3.ensures in
-    let others = c.in-3.in_default-own.rest in
-    (put_as (sym (sentence-pending _ c.args.reason others.0.0.0.0.1 others.0.0.0.1 others.0.0.1 c.in-3.if-number-lt5-own.true)) said.0, omega (arith, said.1))
+returns-in-ParametersNotUsable c = simp (c.put_unsupported.ensures, c.in-ParametersNotUsable.is)
 
 pub returns-in_default : goal.returns-in_default
 unfolding bytes_of sentence_by
 returns-in_default c =
-    let said = c.put_words-in_default.ensures in
-    let others = c.in_default.in_default-own.rest in
-    (put_as (sym (sentence-other _ c.args.reason c.in_default.if-number-lt5-own.false others.0.1 others.1)) said, omega (arith, said.tells))
+    let other : sentence_by (number_of c.args.reason.cause.answer) c.args.reason ≡ bytes_of "the answer is not a write's" = grind (arith, common_steps) in
+    simp (c.put_words-in_default.ensures, other)

@@ -1,4 +1,3 @@
-use borrow.Author.Rules.{rules}
 use Rattle.device_16.specs.Model.{worded}
 use Rattle.stream_16.proofs.Obeying.{short-served, lent_fits, long-served}
 use Rattle.stream_16.proofs.obey.Goals as goal

@@ -1,4 +1,3 @@
-use borrow.Author.Rules.{rules}
 use Prim.Native.Nat.{ℕ, ◌+◌, ◌*◌, ◌<◌, ◌^◌}
 use mathlib.Core.Bool.{Bool}
 use mathlib.Core.List.{List}
@@ -55,12 +54,12 @@ returns c =
     let a = f.args in
     let events = a.events.now in
     let pages = a.pages.now in
-    let answered = ap (λ (o : WriteOutcome). o.answer) w.write-tried.ensures in
-    let number = ap (λ (r : Row). r.number) c.row_of-row.ensures ∙ ap number_of answered in
-    let place = c.selected.ensures.0 in
-    let mode = ap (λ (x : Sight). x.set.fields.encryption) c.look-sight.ensures in
+    let answered = ap (λ (o : WriteOutcome). o.answer) w.write-answer.ensures in
+    let number = ap (λ (r : Row). r.number) c.row_of-number.ensures ∙ ap number_of answered in
+    let place = c.selected-place.ensures.0 in
+    let mode = ap (λ (x : Sight). x.set.fields.encryption) c.look.ensures in
     let few : (place_count + 2) * length (calls events pages) < 2 ^ 32 = omega (arith, length-calls pages events, f.requires) in
-    let told : record { answer = w.write-tried.result.answer; touch = c.touch_for.result; mode = c.mode_for.result } ≡ made c f.follow-followed.result = simp (c.mode_for.ensures, c.touch_for.ensures, number, answered, place, mode) in
+    let told : record { answer = w.write-answer.result.answer; touch = c.touch_for.result; mode = c.mode_for.result } ≡ made c f.follow-followed.result = simp (c.mode_for.ensures, c.touch_for.ensures, number, answered, place, mode) in
     told ∙ ap (made c) f.follow-followed.ensures
     ∙ ap (cause_with (followed_for a.n (calls events pages)) a.n) (answered-since a.n a.supported (calls events pages))
     ∙ cause-found nexus_count place_count a.n (omega arith) a.supported (calls events pages) few

@@ -1,4 +1,3 @@
-use borrow.Author.Rules.{rules}
 use Rattle.why_16.proofs.follow_lock.Goals as goal
 
 pub returns-then-lock : goal.returns-then-lock

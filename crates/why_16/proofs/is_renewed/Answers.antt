@@ -1,4 +1,3 @@
-use borrow.Author.Rules.{rules}
 use Rattle.why_16.proofs.is_renewed.Goals as goal
 
 pub returns : goal.returns

@@ -1,4 +1,3 @@
-use borrow.Author.Rules.{rules}
 use Rattle.why_16.proofs.touch_by.Goals as goal
 
 pub returns : goal.returns

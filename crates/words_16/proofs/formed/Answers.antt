@@ -24,33 +24,33 @@ tested r n p w =
     let t = formed-tested (worded r) (omega (arith, n)) (omega (arith, n)) (omega (arith, p)) (w ∙ sym p) in
     sym (rw n at t)
 
-pub loop-place-init : goal.loop-place-init
-loop-place-init c = check-starts (search (rules, sized-field))
+pub loop-set-init : goal.loop-set-init
+loop-set-init c = check-starts (search (rules, sized-field))
 
 pub returns-then-not-empty_is_zero : goal.returns-then-not-empty_is_zero
 returns-then-not-empty_is_zero c =
     let r = c.args.r in
-    stops_first (all empty_is_zero r.device.sets) _ _ (check-fails c.loop-place.invariant (search rules) _ c.empty_is_zero.ensures (c.if-not-empty_is_zero.true)) ∙ tested r (search (rules, sized-field)) (search (rules, sized-field)) (search (rules, sized-field))
+    stops_first (all empty_is_zero r.device.sets) _ _ (check-fails c.loop-set.invariant (search rules) _ c.empty_is_zero.ensures (c.if-not-empty_is_zero.true)) ∙ tested r (search (rules, sized-field)) (search (rules, sized-field)) (search (rules, sized-field))
 
-pub loop-place-preserved : goal.loop-place-preserved
-loop-place-preserved c = check-passes c.loop-place.invariant (search rules) _ c.empty_is_zero.ensures (c.if-not-empty_is_zero.false)
+pub loop-set-preserved : goal.loop-set-preserved
+loop-set-preserved c = check-passes c.loop-set.invariant (search rules) _ c.empty_is_zero.ensures (c.if-not-empty_is_zero.false)
 
-pub loop-place-2-init : goal.loop-place-2-init
-loop-place-2-init c = (check-ends c.loop-place.invariant (search rules), check-starts (search (rules, sized-field)))
+pub loop-place-init : goal.loop-place-init
+loop-place-init c = (check-ends c.loop-set.invariant (search rules), check-starts (search (rules, sized-field)))
 
 pub returns-then-not-used_fits : goal.returns-then-not-used_fits
 returns-then-not-used_fits c =
-    let inv = c.loop-place-2.invariant in
+    let inv = c.loop-place.invariant in
     let r = c.args.r in
     stops_second (all empty_is_zero r.device.sets) _ _ inv.0 (check-fails inv.1 (search rules) _ c.used_fits.ensures (c.if-not-used_fits.true)) ∙ tested r (search (rules, sized-field)) (search (rules, sized-field)) (search (rules, sized-field))
 
-pub loop-place-2-preserved : goal.loop-place-2-preserved
-loop-place-2-preserved c =
-    let inv = c.loop-place-2.invariant in
+pub loop-place-preserved : goal.loop-place-preserved
+loop-place-preserved c =
+    let inv = c.loop-place.invariant in
     (inv.0, check-passes inv.1 (search rules) _ c.used_fits.ensures (c.if-not-used_fits.false))
 
 pub returns : goal.returns
 returns c =
-    let inv = c.loop-place-2.invariant in
+    let inv = c.loop-place.invariant in
     let r = c.args.r in
     ends-third (all empty_is_zero r.device.sets) _ _ _ inv.0 (check-ends inv.1 (search rules)) c.selections_fit.ensures ∙ tested r (search (rules, sized-field)) (search (rules, sized-field)) (search (rules, sized-field))

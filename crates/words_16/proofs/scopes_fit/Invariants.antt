@@ -1,4 +1,3 @@
-use Prim.Native.Nat.{◌-◌}
 use mathlib.Core.Bool.{true}
 use Rattle.arrays.proofs.Loops.{Checked}
 use Rattle.arrays.proofs.Sorting.{Picked}
@@ -8,7 +7,4 @@ use Rattle.words.specs.Fitting.{nexus_fits}
 use Rattle.words_16.proofs.scopes_fit.Given as goal
 
 abbrev pub invariant-loop-n : goal.invariant-loop-n
-invariant-loop-n l = Checked (nexus_fits l.first) nexus_count l.nexuses l.n true × Picked is_local nexus_count l.nexuses l.n l.locals
-
-abbrev pub decreases-loop-n : goal.decreases-loop-n
-decreases-loop-n l = nexus_count - l.n
+invariant-loop-n l = Checked (nexus_fits l.first) nexus_count l.nexus-items l.n true × Picked is_local nexus_count l.nexus-items l.n l.locals

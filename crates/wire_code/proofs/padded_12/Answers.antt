@@ -1,7 +1,0 @@
-use mathlib.Core.Path.{◌∙◌}
-use lib.ListN.{replicate}
-use Rattle.wire.proofs.Stores.{sets-shown}
-use Rattle.wire_code.proofs.padded_12.Goals as goal
-
-pub returns : goal.returns
-returns c = c.put.ensures ∙ sets-shown c.args.part.now (replicate 12 0)
