@@ -7,6 +7,7 @@ use Rattle.answer.specs.declared.Sense.{Sense}
 use Rattle.answer.specs.declared.Change.{Change}
 use Rattle.answer.specs.declared.Change.TheVariants.{Unchanged, AnotherCleared, VendorCleared, Registered}
 use Rattle.answer.specs.declared.Row.{Row}
+use Rattle.answer.specs.declared.Refusal.{Refusal}
 
 -- one row: the number, then sense key, ASC and ASCQ (zeros where there is none), then what a refusal changes of its sender's marks
 -- ("none", "that flag cleared", "nexus registered")
@@ -57,6 +58,10 @@ is_done a = eqb (number_of a) 0
 -- answer 8
 abbrev pub is_field_wrong : Answer → Bool
 is_field_wrong a = eqb (number_of a) 8
+
+-- "A refused answer carries its number and sense only."
+abbrev pub refusal_of : Answer → Refusal
+refusal_of a = record { answer = a; sense = sense_of a }
 
 -- a check as the code gives it: passed, or its answer
 abbrev pub passed : Answer → Result ⊤ Answer

@@ -42,6 +42,13 @@ impl Sense {
     };
 }
 
+// What a call that is refused carries beside its record: the answer, and its sense bytes.
+#[derive(Clone, Copy)]
+pub struct Refusal {
+    pub answer: Answer,
+    pub sense: Sense,
+}
+
 // The column "Record change": what a refusal changes, in the marks of the nexus that sent the call.
 #[derive(Clone, Copy)]
 pub enum Change {

@@ -2,9 +2,9 @@
 #![tactic(auto)]
 
 ghost use Rattle.std.specs.Prelude.{◌≡◌};
-ghost use Rattle.answer.specs.Answers.{row_of, sense_of, is_done};
+ghost use Rattle.answer.specs.Answers.{row_of, sense_of, is_done, refusal_of};
 
-use answer::{Answer, Row, Sense};
+use answer::{Answer, Refusal, Row, Sense};
 
 // The answer's row in document 01's table; that of 8 takes the byte from the answer.
 pub fn row_of(answer: Answer) -> Row
@@ -40,6 +40,16 @@ pub fn sense_of(answer: Answer) -> Sense
     ensures { result ≡ sense_of answer }
 {
     row_of(answer).sense
+}
+
+// What a call that is refused with this answer carries.
+pub fn refusal_of(answer: Answer) -> Refusal
+    ensures { result ≡ refusal_of answer }
+{
+    Refusal {
+        answer,
+        sense: sense_of(answer),
+    }
 }
 
 // Answer 0: the call was carried out.

@@ -26,10 +26,11 @@ pub fn look(d: Device, n: u8) -> Sight
     ensures { result ≡ sighted (state d) n }
 {
     let nexus = device_16::nexus_at(d, n as usize);
-    let place = device_16::place_of(nexus, n as usize, d.sets);
+    let sets = d.sets;
+    let place = device_16::place_of(nexus, n as usize, sets);
     Sight {
         nexus,
-        set: d.sets[place],
+        set: sets[place],
     }
 }
 
@@ -47,7 +48,8 @@ fn mark(r: Record, asked: Asked) -> Outcome
     }
 }
 
-// Any call of a record that is known to be well formed or not.
+// Any call of a record that is known to be well formed or not. Inlined into a loop over events it would cost a write, which needs none of it.
+#[inline(never)]
 pub fn perform(r: Record, formed: bool, asked: Asked, page: &[u8]) -> Outcome
     ensures { result ≡ outcome_by (worded r) (call_of asked page.now) (answer_where formed (state r.device) (call_of asked page.now)) }
 {

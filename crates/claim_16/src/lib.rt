@@ -60,6 +60,8 @@ fn note(rows: [Row; ROWS], asked: Asked, decision: Decision) -> [Row; ROWS]
 {
     match asked {
         Asked::Write(n, _) => count_at(rows, n, decision),
+        // The writes before a power-on stay counted.
+        Asked::PowerOn => rows,
         _ => rows,
     }
 }

@@ -10,12 +10,13 @@ use Rattle.arrays.specs.Arrays.{each}
 use Rattle.wire.specs.Buffers.{shown}
 use Rattle.answer.specs.Answers.{sense_of, is_done, passed}
 use Rattle.answer.specs.declared.Answer.{Answer}
+use Rattle.answer.specs.declared.Refusal.{Refusal}
 use Rattle.answer.specs.declared.Answer.TheVariants.{Done, NotWellFormed}
 use Rattle.answer.specs.declared.Change.TheVariants.{Registered}
 use Rattle.answer.proofs.Passed.{passed-is, refused-is}
-use Rattle.page.specs.Check.{Checked, ruled}
+use Rattle.page.specs.Check.{Checked, told}
 use Rattle.page.specs.declared.Page.{Page}
-use Rattle.page.proofs.Ruled.{ruled-done, ruled-fault}
+use Rattle.page.proofs.Ruled.{told-done, told-fault}
 use Rattle.device.specs.Record.{State, nexus_at, set_at}
 use Rattle.device.specs.Words.{Worded, formed, keeping}
 use Rattle.device.specs.Selecting.{selected, selected_set}
@@ -108,16 +109,16 @@ module _ (r : Worded) (command : Command) (nexuses : ℕ) (nexus : Nexus) (suppo
       out-clear = front-passed r.state call (commanded_of r.state command (is_out_page command.code)) rest refl (clear ∙ ap passed (commanded_is (is_out_page command.code) supports))
 
       -- the page is wrong
-      pub page-refused : (a : Answer) → Err a ≡ ruled checked → refused_call r n a ≡ known_outcome r call
-      page-refused a k =
-          let (f, e) = ruled-fault checked a (sym k) in
-          out-refused r call a n refl (ap is_done (sym e) ∙ f)
+      pub page-refused : (x : Refusal) → Err x ≡ told checked → refused_call r n x.answer ≡ known_outcome r call
+      page-refused x k =
+          let (f, e) = told-fault checked x (sym k) in
+          out-refused r call x.answer n refl (ap is_done (sym e) ∙ f)
           ∙ ap (outcome_by r call) (sym e ∙ sym (out-clear ∙ first-fault checked.answer (check10 r.state n checked.page ∷ []) f))
 
       -- it isn't, and check 10 decides
-      pub page-right : (x : Page) → Ok x ≡ ruled checked → page_outcome r n x ≡ known_outcome r call
+      pub page-right : (x : Page) → Ok x ≡ told checked → page_outcome r n x ≡ known_outcome r call
       page-right x k =
-          let (t, e) = ruled-done checked x (sym k) in
+          let (t, e) = told-done checked x (sym k) in
           ap (page_outcome r n) (sym e)
           ∙ page-decides r command bytes (known_answer r.state call) (out-clear ∙ first_next checked.answer (check10 r.state n checked.page ∷ []) t ∙ last-is (check10 r.state n checked.page))
 

@@ -1,8 +1,9 @@
 -- What each public call of this model gives back. a is the call's answer; "A refused answer carries its number and sense only."
 use Rattle.std.specs.Prelude.{ℕ, Bool, Result, Ok, Err}
 use Rattle.arrays.specs.Base.{when◌then◌else◌}
-use Rattle.answer.specs.Answers.{sense_of, change_of, is_done}
+use Rattle.answer.specs.Answers.{sense_of, change_of, is_done, refusal_of}
 use Rattle.answer.specs.declared.Answer.{Answer}
+use Rattle.answer.specs.declared.Refusal.{Refusal}
 use Rattle.answer.specs.declared.Answer.TheVariants.{Done, NoPlaceForLocal}
 use Rattle.page.specs.declared.Page.{Page}
 use Rattle.device.specs.Record.{State, power_on}
@@ -71,9 +72,9 @@ write_outcome r n supported = write_outcome_with (after_of r (write n supported)
 unfoldable pub read_outcome : Worded → ℕ → Block → ReadOutcome
 read_outcome r n block = read_outcome_with (after_of r (read n block)) r.state n block (answer_of r (read n block))
 
--- "which hosts a set serves": the word, or the answer that refuses
-unfoldable pub served : Worded → ℕ → Result ℕ Answer
-served r place = let a = served_answer r place in when is_done a then Ok (served_word r place a) else Err a
+-- "which hosts a set serves": the word, or the refusal
+unfoldable pub served : Worded → ℕ → Result ℕ Refusal
+served r place = let a = served_answer r place in when is_done a then Ok (served_word r place a) else Err (refusal_of a)
 
 -- ---- the same by the words that the record holds, as the parts after check 1 give it
 

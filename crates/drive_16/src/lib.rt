@@ -8,7 +8,7 @@ ghost use Rattle.device_16.specs.Model.{state, worded, record_of};
 ghost use Rattle.status.specs.Status.{status_of};
 ghost use Rattle.marks.specs.Parts.{told_by};
 ghost use Rattle.drive.specs.Calls.{security_in, security_out, unit_reset, happens};
-ghost use Rattle.page.specs.Check.{ruled};
+ghost use Rattle.page.specs.Check.{told};
 ghost use Rattle.drive.specs.Checks.{page_checked, known_answer};
 ghost use Rattle.drive.specs.Effects.{releasing};
 ghost use Rattle.drive.specs.After.{actor_of, changed_by};
@@ -16,7 +16,7 @@ ghost use Rattle.drive.specs.Records.{answer_of};
 ghost use Rattle.drive.specs.Outcomes.{response_page, in_buffer};
 ghost use Rattle.drive_16.specs.Outcomes.{powered_on, outcome, in_outcome, write_outcome, read_outcome, served, known_outcome, known_in_outcome, known_write_outcome, known_read_outcome, refused_call, refused_in, refused_write, refused_read, unchanged, page_outcome};
 
-use answer::{Answer, Change, Sense};
+use answer::{Answer, Change, Refusal, Sense};
 use device_16::{Device, Record};
 use drive::{Block, Command, Decision, ReadDecision};
 use page::Page;
@@ -150,8 +150,8 @@ pub fn security_in(r: Record, command: Command, buffer: &mut [u8]) -> InOutcome
 }
 
 // Checks 7, 8 and 9, and the page read.
-pub fn check_page(d: Device, n: u8, page: &[u8]) -> Result<Page, Answer>
-    ensures { result ≡ ruled (page_checked (state d) n page.now) }
+pub fn check_page(d: Device, n: u8, page: &[u8]) -> Result<Page, Refusal>
+    ensures { result ≡ told (page_checked (state d) n page.now) }
 {
     let nexus = device_16::nexus_at(d, n as usize);
     let sets = d.sets;
@@ -182,7 +182,8 @@ fn accept(r: Record, n: u8, page: Page) -> Outcome
     }
 }
 
-// SECURITY PROTOCOL OUT, after check 1.
+// SECURITY PROTOCOL OUT, after check 1. Inlined beside the other calls it would move each nexus by itself, again and again.
+#[inline(never)]
 pub fn security_out_known(r: Record, command: Command, page: &[u8]) -> Outcome
     ensures { result ≡ known_outcome (worded r) (security_out command page.now) }
 {
@@ -193,7 +194,7 @@ pub fn security_out_known(r: Record, command: Command, page: &[u8]) -> Outcome
     }
     match check_page(r.device, command.nexus, page) {
         Ok(read) => accept(r, command.nexus, read),
-        Err(answer) => refuse(r, command.nexus, answer),
+        Err(refusal) => refuse(r, command.nexus, refusal.answer),
     }
 }
 
@@ -229,8 +230,9 @@ pub fn write_known(r: Record, n: u8, supported: bool) -> WriteOutcome
     if let Err(answer) = drive_code::hear(n, nexus.marks, NEXUSES) {
         return refuse_write(r, n, answer);
     }
-    let place = device_16::place_of(nexus, n as usize, r.device.sets);
-    let set = r.device.sets[place];
+    let sets = r.device.sets;
+    let place = device_16::place_of(nexus, n as usize, sets);
+    let set = sets[place];
     if let Err(answer) = drive_code::check_write(nexus, set, supported) {
         return refuse_write(r, n, answer);
     }
@@ -275,8 +277,9 @@ pub fn read_known(r: Record, n: u8, block: Block) -> ReadOutcome
     if let Err(answer) = drive_code::hear(n, nexus.marks, NEXUSES) {
         return refuse_read(r, n, answer);
     }
-    let place = device_16::place_of(nexus, n as usize, r.device.sets);
-    match drive_code::restore(r.device.sets[place], block) {
+    let sets = r.device.sets;
+    let place = device_16::place_of(nexus, n as usize, sets);
+    match drive_code::restore(sets[place], block) {
         Ok(decision) => ReadOutcome {
             after: r,
             answer: Answer::Done,
@@ -375,16 +378,17 @@ pub fn happen(r: Record, event: Event) -> Outcome
     }
 }
 
-// Which hosts the set in a place serves: its word, or the answer that refuses. The record stays as it is.
-pub fn serves(r: Record, place: u16) -> Result<u64, Answer>
+// Which hosts the set in a place serves: its word, or the refusal. The record stays as it is.
+pub fn serves(r: Record, place: u16) -> Result<u64, Refusal>
     ensures { result ≡ served (worded r) place }
 {
     if !words_16::formed(r) {
-        return Err(Answer::NotWellFormed);
+        return Err(answer_code::refusal_of(Answer::NotWellFormed));
     }
     let at = place as usize;
     if PLACES <= at {
-        return Err(Answer::PlaceAbove);
+        return Err(answer_code::refusal_of(Answer::PlaceAbove));
     }
-    Ok(r.words[at])
+    let words = r.words;
+    Ok(words[at])
 }

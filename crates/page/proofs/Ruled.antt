@@ -14,30 +14,31 @@ use Rattle.arrays.proofs.Base.{cases, clash, if-true, if-false}
 use Rattle.wire.specs.Rules.{length_wrong, Rule, breach}
 use Rattle.wire.proofs.Rules.{under_more}
 use Rattle.wire.proofs.Lowest.{right-length}
-use Rattle.answer.specs.Answers.{is_done}
+use Rattle.answer.specs.Answers.{is_done, sense_of, refusal_of}
 use Rattle.answer.specs.declared.Answer.{Answer}
+use Rattle.answer.specs.declared.Refusal.{Refusal}
 use Rattle.answer.specs.declared.Answer.TheVariants.{PageLengthWrong, FieldWrong, FifthSupplementalKey}
 use Rattle.pointing.specs.Faulted.{faulted}
 use Rattle.pointing.proofs.Faulted.{Within, within_under, within-append, first-broken, none-broken}
 use Rattle.parameters.specs.Fields.{key_size, only_key, supplemental_most}
 use Rattle.page.specs.Fields.{key_from, scope_of, is_public, lock_of, sdk_of, encryption_of, decryption_of, key_length_of, key_end, key_of, listed_of}
 use Rattle.page.specs.Rules.{open_rules, plain_rules, key_length, key_rules, set_rules, match_rules, end_rules, supplemental_rules}
-use Rattle.page.specs.Check.{Checked, no_page, refused_page, accepted_page, public_page, supplemental_page, set_said, set_page, checked, ruled}
+use Rattle.page.specs.Check.{Checked, no_page, refused_page, accepted_page, public_page, supplemental_page, set_said, set_page, checked, told, ruled}
 use Rattle.page.specs.declared.Page.{Page}
 use Rattle.page.proofs.Parts.{open-under, match-under, plain-under, key-under, set-hold, supplemental-hold, key_fits}
 use Rattle.page.proofs.Lowest.{set-under, end_fits}
 
 -- a result is one thing
-ok-same : {r : Result Page Answer} {x y : Page} → r ≡ Ok x → r ≡ Ok y → x ≡ y
+ok-same : {E : Type 0} {r : Result Page E} {x y : Page} → r ≡ Ok x → r ≡ Ok y → x ≡ y
 ok-same d e = cc
 
-err-same : {r : Result Page Answer} {a b : Answer} → r ≡ Err a → r ≡ Err b → a ≡ b
+err-same : {E : Type 0} {r : Result Page E} {a b : E} → r ≡ Err a → r ≡ Err b → a ≡ b
 err-same d e = cc
 
-ok-not-err : {r : Result Page Answer} {x : Page} {a : Answer} → r ≡ Err a → r ≡ Ok x → ⊥
+ok-not-err : {E : Type 0} {r : Result Page E} {x : Page} {a : E} → r ≡ Err a → r ≡ Ok x → ⊥
 ok-not-err d e = cc
 
-err-not-ok : {r : Result Page Answer} {x : Page} {a : Answer} → r ≡ Ok x → r ≡ Err a → ⊥
+err-not-ok : {E : Type 0} {r : Result Page E} {x : Page} {a : E} → r ≡ Ok x → r ≡ Err a → ⊥
 err-not-ok d e = cc
 
 -- what is checked once the rules are tried
@@ -129,39 +130,60 @@ module _ (p : List ℕ) (scope mode count : ℕ) where
     unfolding checked
     open-right e = rw sized (tried-right (open_rules p) (length p) _ e)
 
--- ---- a page or an answer
+-- ---- a page or a refusal
 
 -- a page is told where the answer is 0
-pub ruled-done : (c : Checked) (page : Page) → ruled c ≡ Ok page → (is_done c.answer ≡ true) × (c.page ≡ page)
-ruled-done c page e = cases (is_done c.answer) (λ t. (t, ok-same (if-true _ _ _ t) e)) (λ f. absurd (ok-not-err (if-false _ _ _ f) e))
+pub told-done : (c : Checked) (page : Page) → told c ≡ Ok page → (is_done c.answer ≡ true) × (c.page ≡ page)
+told-done c page e = cases (is_done c.answer) (λ t. (t, ok-same (if-true _ _ _ t) e)) (λ f. absurd (ok-not-err (if-false _ _ _ f) e))
 
--- and otherwise the answer
-pub ruled-fault : (c : Checked) (a : Answer) → ruled c ≡ Err a → (is_done c.answer ≡ false) × (c.answer ≡ a)
-ruled-fault c a e = cases (is_done c.answer) (λ t. absurd (err-not-ok (if-true _ _ _ t) e)) (λ f. (f, err-same (if-false _ _ _ f) e))
+-- and otherwise the refusal
+pub told-fault : (c : Checked) (x : Refusal) → told c ≡ Err x → (is_done c.answer ≡ false) × (c.answer ≡ x.answer)
+told-fault c x e = cases (is_done c.answer) (λ t. absurd (err-not-ok (if-true _ _ _ t) e)) (λ f. (f, ap (λ (y : Refusal). y.answer) (err-same (if-false _ _ _ f) e)))
 
--- of a page that is refused none of its values is read
+-- the sense is the answer's, and of a page that is refused none of its values is read
 pub record Blank (c : Checked) : Type 0 where
+  pub sensed : c.sense ≡ sense_of c.answer
   pub unread : is_done c.answer ≡ false → c.page ≡ no_page
 
 refused-blank : (a : Answer) → Blank (refused_page a)
-refused-blank a = record { unread = λ f. refl }
+refused-blank a = record { sensed = refl; unread = λ f. refl }
 
 accepted_blank : (page : Page) → Blank (accepted_page page)
-accepted_blank page = record { unread = λ f. clash refl f }
+accepted_blank page = record { sensed = refl; unread = λ f. clash refl f }
 
 either_blank : (b : Bool) {x y : Checked} → Blank x → Blank y → Blank (when b then x else y)
 either_blank true x y = x
 either_blank false x y = y
 
+pub set-blank : (p : List ℕ) → Blank (set_page p)
+unfolding set_page
+set-blank p =
+    let n = length p in
+    either_blank (ltb (breach (set_rules p) n) n) (refused-blank (FieldWrong (breach (set_rules p) n)))
+    (either_blank (ltb (key_end p + (listed_of p).good) n) (refused-blank (FieldWrong (key_end p + (listed_of p).good))) (accepted_blank (set_said p)))
+
+pub supplemental-blank : (p : List ℕ) (scope mode count : ℕ) → Blank (supplemental_page p scope mode count)
+unfolding supplemental_page
+supplemental-blank p scope mode count =
+    let n = length p in
+    either_blank (ltb (breach (supplemental_rules p scope mode) n) n) (refused-blank (FieldWrong (breach (supplemental_rules p scope mode) n)))
+    (either_blank (leb supplemental_most count) (refused-blank FifthSupplementalKey) (accepted_blank _))
+
 pub blank : (p : List ℕ) (scope mode count : ℕ) → Blank (checked p scope mode count)
-unfolding checked public_page supplemental_page set_page
+unfolding checked public_page
 blank p scope mode count =
     let n = length p in
     either_blank (length_wrong key_from p) (refused-blank PageLengthWrong)
     (either_blank (ltb (breach (open_rules p) n) n) (refused-blank (FieldWrong (breach (open_rules p) n)))
     (either_blank (is_public p) (accepted_blank _)
-    (either_blank (sdk_of p)
-    (either_blank (ltb (breach (supplemental_rules p scope mode) n) n) (refused-blank (FieldWrong (breach (supplemental_rules p scope mode) n)))
-    (either_blank (leb supplemental_most count) (refused-blank FifthSupplementalKey) (accepted_blank _)))
-    (either_blank (ltb (breach (set_rules p) n) n) (refused-blank (FieldWrong (breach (set_rules p) n)))
-    (either_blank (ltb (key_end p + (listed_of p).good) n) (refused-blank (FieldWrong (key_end p + (listed_of p).good))) (accepted_blank (set_said p)))))))
+    (either_blank (sdk_of p) (supplemental-blank p scope mode count) (set-blank p))))
+
+-- a page that is ruled is told
+pub told-right : (c : Checked) (page : Page) → ruled c ≡ Ok page → told c ≡ Ok page
+told-right c page e = cases (is_done c.answer) (λ t. if-true _ _ _ t ∙ ap Ok (ok-same (if-true _ _ _ t) e)) (λ f. absurd (ok-not-err (if-false _ _ _ f) e))
+
+-- and an answer, with its sense
+pub told-wrong : (c : Checked) → Blank c → (a : Answer) → ruled c ≡ Err a → told c ≡ Err (refusal_of a)
+told-wrong c b a e =
+    cases (is_done c.answer) (λ t. absurd (err-not-ok (if-true _ _ _ t) e))
+    (λ f. if-false _ _ _ f ∙ ap (λ s. Err (record { answer = c.answer; sense = s })) b.sensed ∙ ap (λ x. Err (refusal_of x)) (err-same (if-false _ _ _ f) e))

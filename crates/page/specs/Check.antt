@@ -6,6 +6,7 @@ use Rattle.wire.specs.Rules.{length_wrong, breach}
 use Rattle.answer.specs.Answers.{is_done, sense_of}
 use Rattle.answer.specs.declared.Answer.{Answer}
 use Rattle.answer.specs.declared.Sense.{Sense}
+use Rattle.answer.specs.declared.Refusal.{Refusal}
 use Rattle.answer.specs.declared.Answer.TheVariants.{Done, PageLengthWrong, FieldWrong, FifthSupplementalKey}
 use Rattle.parameters.specs.Fields.{only_key, no_fields, supplemental_most}
 use Rattle.parameters.specs.Codes.{public_scope}
@@ -64,6 +65,10 @@ checked p scope mode count =
     else when sdk_of p then supplemental_page p scope mode count
     else set_page p
 
--- the page where it is done, and otherwise the answer
+-- the page where it is done, and otherwise the refusal: "A refused answer carries its number and sense only."
+abbrev pub told : Checked → Result Page Refusal
+told c = when is_done c.answer then Ok c.page else Err (record { answer = c.answer; sense = c.sense })
+
+-- the same with the answer alone, which is what rules tried in turn tell
 abbrev pub ruled : Checked → Result Page Answer
 ruled c = when is_done c.answer then Ok c.page else Err c.answer

@@ -5,9 +5,10 @@ ghost use Rattle.std.specs.Prelude.{◌≡◌, ◌≤◌, length};
 ghost use Rattle.pointing.specs.Faulted.{faulted};
 ghost use Rattle.page.specs.Fields.{set_byte4, set_byte5, key_from, fields_with, list_of};
 ghost use Rattle.page.specs.Rules.{open_rules, mode_rules, plain_rules, key_length, key_rules, set_rules, match_rules, supplemental_rules};
-ghost use Rattle.page.specs.Check.{supplemental_page, set_page, checked, ruled};
+ghost use Rattle.page.specs.Check.{supplemental_page, set_page, checked, told};
 
-use answer::Answer;
+use answer::{Answer, Refusal};
+use answer_code::refusal_of;
 use kad::{Kads, Listed};
 use page::{Page, SetByte4, SetByte5};
 use parameters::{ALL, DISABLE, ENCRYPT, Fields, KEY_SIZE, MIXED, PUBLIC, SUPPLEMENTAL_MOST};
@@ -174,15 +175,19 @@ fn set_fields(page: &[u8], key: [u8; 32], kads: Kads) -> Fields
 }
 
 // A page that is LOCAL or ALL with SDK 0.
-fn read_set(page: &[u8]) -> Result<Page, Answer>
+fn read_set(page: &[u8]) -> Result<Page, Refusal>
     requires { key_from ≤ length page.now }
-    ensures { result ≡ ruled (set_page page.now) }
+    ensures { result ≡ told (set_page page.now) }
 {
-    check_set_rules(page)?;
+    if let Err(answer) = check_set_rules(page) {
+        return Err(refusal_of(answer));
+    }
     let start = KEY_FROM + wire_code::word_at(page, 18);
     let list = list_after_key(page[6], &page[start..]);
     let end = start + list.good;
-    check_rule(end as u16, page.len() <= end)?;
+    if let Err(answer) = check_rule(end as u16, page.len() <= end) {
+        return Err(refusal_of(answer));
+    }
     let key = wire_code::padded(&page[KEY_FROM..start]);
     let byte4 = set_byte_4(page[4]);
     Ok(Page {
@@ -194,13 +199,15 @@ fn read_set(page: &[u8]) -> Result<Page, Answer>
 }
 
 // A page that is LOCAL or ALL with SDK 1.
-fn read_supplemental(page: &[u8], scope: u8, mode: u8, count: u8) -> Result<Page, Answer>
+fn read_supplemental(page: &[u8], scope: u8, mode: u8, count: u8) -> Result<Page, Refusal>
     requires { key_from ≤ length page.now }
-    ensures { result ≡ ruled (supplemental_page page.now scope mode count) }
+    ensures { result ≡ told (supplemental_page page.now scope mode count) }
 {
-    check_supplemental_rules(page, scope, mode)?;
+    if let Err(answer) = check_supplemental_rules(page, scope, mode) {
+        return Err(refusal_of(answer));
+    }
     if SUPPLEMENTAL_MOST <= count {
-        return Err(Answer::FifthSupplementalKey);
+        return Err(refusal_of(Answer::FifthSupplementalKey));
     }
     let start = KEY_FROM + wire_code::word_at(page, 18);
     let mut fields = Fields::NONE;
@@ -214,13 +221,15 @@ fn read_supplemental(page: &[u8], scope: u8, mode: u8, count: u8) -> Result<Page
 }
 
 // The whole check, where the nexus's scope, its set's decryption mode and its count of supplemental keys are given.
-pub fn check(page: &[u8], scope: u8, mode: u8, count: u8) -> Result<Page, Answer>
-    ensures { result ≡ ruled (checked page.now scope mode count) }
+pub fn check(page: &[u8], scope: u8, mode: u8, count: u8) -> Result<Page, Refusal>
+    ensures { result ≡ told (checked page.now scope mode count) }
 {
     if wire_code::is_length_wrong(page, KEY_FROM) {
-        return Err(Answer::PageLengthWrong);
+        return Err(refusal_of(Answer::PageLengthWrong));
     }
-    check_open(page)?;
+    if let Err(answer) = check_open(page) {
+        return Err(refusal_of(answer));
+    }
     let byte4 = set_byte_4(page[4]);
     if byte4.scope == PUBLIC {
         // Only SCOPE and LOCK are read.

@@ -30,6 +30,17 @@ fn print<W: Write>(
     }
 }
 
+// Claims what is read. A function of its own: behind the test of the argument the file's room would be cleared twice.
+fn claim<R: Read, W: Write>(
+    rt: &impl Eprint,
+    input: &mut R,
+    output: &mut W,
+    rate: u64,
+) -> Result<(), Failure> {
+    let mut room = [0u8; FILE_ROOM];
+    print(rt, output, pipe::read_file(input, &mut room)?, rate)
+}
+
 fn run<R: Read, W: Write>(
     rt: &(impl Env + Eprint),
     input: &mut R,
@@ -39,8 +50,7 @@ fn run<R: Read, W: Write>(
     let Some(rate) = pipe::argument(rt, 1, &mut word).and_then(text_code::read_decimal) else {
         return pipe::say(rt, "usage: print_claim_16 RATE < RECORDING");
     };
-    let mut room = [0u8; FILE_ROOM];
-    print(rt, output, pipe::read_file(input, &mut room)?, rate)
+    claim(rt, input, output, rate)
 }
 
 fn main(rt: HostRuntime) -> ExitCode {

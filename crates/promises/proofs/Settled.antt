@@ -27,6 +27,7 @@ pub use Rattle.text_code.proofs.Settled.{text-settles as text-code-text-settles}
 -- crate answer_code
 pub use Rattle.answer_code.proofs.Settled.{row-of-settles as answer-code-row-of-settles}
 pub use Rattle.answer_code.proofs.Settled.{sense-of-settles as answer-code-sense-of-settles}
+pub use Rattle.answer_code.proofs.Settled.{refusal-of-settles as answer-code-refusal-of-settles}
 pub use Rattle.answer_code.proofs.Settled.{is-done-settles as answer-code-is-done-settles}
 -- crate pointing_code
 pub use Rattle.pointing_code.proofs.Settled.{check-rule-settles as pointing-code-check-rule-settles}

@@ -4,13 +4,15 @@ use Prim.Native.Nat.{ℕ}
 use mathlib.Core.Path.{◌≡◌, refl, sym, ap, ◌∙◌}
 use mathlib.Core.Bool.{Bool, true, false}
 use mathlib.Core.List.{List}
-use Rattle.std.specs.Prelude.{Option, Some, None}
-use Rattle.std.specs.Option.{is_some, unwrap_or}
-use Rattle.arrays.proofs.Base.{cases}
+use Rattle.std.specs.Prelude.{Result, Ok, Err, is_ok}
+use Rattle.arrays.proofs.Base.{cases, if-true, if-false}
+use Rattle.device.specs.Record.{power_on}
+use Rattle.device.specs.Words.{with_words}
 use Rattle.record.specs.Bytes.{record_bytes}
 use Rattle.record.specs.Reading.{record_read}
 use Rattle.wire.specs.Buffers.{same_bytes}
 use Rattle.record.specs.Good.{good_bytes, record_taken}
+use Rattle.record.proofs.RoundTrip.{refused}
 use Rattle.sizes_16.specs.Sizes.{nexus_count, place_count}
 use Rattle.device_16.specs.Model.{worded, record_of}
 use Rattle.device_16.specs.declared.Record.{Record}
@@ -22,19 +24,25 @@ module _ (bytes : List ℕ) {again : List ℕ} {read : Record} {ok : Bool} (made
   unfolding good_bytes
   told = compared ∙ ap (same_bytes bytes) (written ∙ ap (λ (r : Record). record_bytes (worded r)) made)
 
-  pub load-takes : ok ≡ true → Some read ≡ loaded bytes
+  pub load-takes : ok ≡ true → Ok read ≡ loaded bytes
   unfolding record_taken
   load-takes t = let g : good_bytes nexus_count place_count bytes ≡ true = sym told ∙ t in rw (g, made) refl
 
-  pub load-refuses : ok ≡ false → None ≡ loaded bytes
-  load-refuses f = let g : good_bytes nexus_count place_count bytes ≡ false = sym told ∙ f in rw g refl
+  pub load-refuses : ok ≡ false → {new : Record} → new ≡ record_of (with_words (power_on nexus_count place_count)) → Err new ≡ loaded bytes
+  load-refuses f e = let g : good_bytes nexus_count place_count bytes ≡ false = sym told ∙ f in rw (g, e, refused nexus_count place_count bytes g) refl
 
--- a record is given exactly where the bytes are good
-pub loaded-good : (bytes : List ℕ) → is_some (loaded bytes) ≡ good_bytes nexus_count place_count bytes
+-- bytes are taken exactly where they are good
+pub loaded-good : (bytes : List ℕ) → is_ok (loaded bytes) ≡ good_bytes nexus_count place_count bytes
 loaded-good bytes = cases (good_bytes nexus_count place_count bytes) (λ t. simp t) (λ f. simp f)
 
--- and it is the one that they give
-pub loaded-taken : (bytes : List ℕ) (r : Record) → loaded bytes ≡ Some r → r ≡ record_of (record_taken nexus_count place_count bytes)
-loaded-taken bytes r e =
-    let g : good_bytes nexus_count place_count bytes ≡ true = sym (loaded-good bytes) ∙ ap is_some e in
-    sym (ap (λ (o : Option Record). unwrap_or o r) (rw g at e))
+-- the record of a result, taken or not
+abbrev record_in : Result Record Record → Record
+record_in (Ok r) = r
+record_in (Err r) = r
+
+-- and what is given is the record that they give
+loaded-in : (bytes : List ℕ) → record_in (loaded bytes) ≡ record_of (record_taken nexus_count place_count bytes)
+loaded-in bytes = cases (good_bytes nexus_count place_count bytes) (λ t. ap record_in (if-true _ _ _ t)) (λ f. ap record_in (if-false _ _ _ f))
+
+pub loaded-taken : (bytes : List ℕ) (r : Record) → loaded bytes ≡ Ok r → r ≡ record_of (record_taken nexus_count place_count bytes)
+loaded-taken bytes r e = sym (ap record_in e) ∙ loaded-in bytes

@@ -118,13 +118,15 @@ fn record_of(bytes: &[u8]) -> Record
     }
 }
 
-// Bytes are a record where the record that they give has the same bytes: their count is right, and each yes or no is 1 or 0.
-pub fn load(bytes: &[u8]) -> Option<Record>
+// Bytes are a record where the record that they give has the same bytes: their count is right, and each yes or no is 1 or 0. Others are
+// refused, and give the record of power-on.
+pub fn load(bytes: &[u8]) -> Result<Record, Record>
     ensures { result ≡ loaded bytes.now }
 {
     let record = record_of(bytes);
     if bytes == record_bytes(record).as_slice() {
-        return Some(record);
+        return Ok(record);
     }
-    None
+    let new = words_16::power_on();
+    Err(new)
 }

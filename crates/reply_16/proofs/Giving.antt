@@ -10,8 +10,9 @@ use lib.Seq.{sets}
 use Rattle.std.specs.Prelude.{Ok, Err}
 use Rattle.arrays.proofs.Base.{cases, if-elim, if-true, if-false}
 use Rattle.wire.specs.Numbers.{eight}
-use Rattle.answer.specs.Answers.{is_done}
+use Rattle.answer.specs.Answers.{is_done, refusal_of}
 use Rattle.answer.specs.declared.Answer.{Answer}
+use Rattle.answer.specs.declared.Refusal.{Refusal}
 use Rattle.answer.specs.declared.Answer.TheVariants.{Done}
 use Rattle.answer.proofs.Numbers.{done-is}
 use Rattle.device.specs.Record.{State}
@@ -93,15 +94,15 @@ module _ (w : Worded) (place : ℕ) {b : List ℕ} {r : Reply} where
       let is : word ≡ served_word w place a = cc in
       given-as
       (ap (λ (l : List ℕ). answered Done l w) (p ∙ ap eight is ∙ sym (if-true _ _ _ t)) ∙ ap (λ (x : Answer). answered x (when_done a (eight (served_word w place a))) w) (sym (done-is a t))) g)
-      (λ f. let v : Ok word ≡ Err a = e ∙ if-false _ _ _ f in cc)
+      (λ f. let v : Ok word ≡ Err (refusal_of a) = e ∙ if-false _ _ _ f in cc)
 
-  pub serves-refused : {a : Answer} → Err a ≡ served w place → r ≡ reply_with (record_of w) a 0 → Given (serves_reply w place) b r b
+  pub serves-refused : {x : Refusal} → Err x ≡ served w place → r ≡ reply_with (record_of w) x.answer 0 → Given (serves_reply w place) b r b
   unfolding serves_reply served
-  serves-refused {a} e u =
+  serves-refused {x} e u =
       let due = served_answer w place in
       cases (is_done due)
-      (λ t. let v : Err a ≡ Ok (served_word w place due) = e ∙ if-true _ _ _ t in cc)
+      (λ t. let v : Err x ≡ Ok (served_word w place due) = e ∙ if-true _ _ _ t in cc)
       (λ f.
-      let v : Err a ≡ Err due = e ∙ if-false _ _ _ f in
-      let is : a ≡ due = cc in
-      given-as (ap (λ (x : Answer). answered x [] w) is ∙ ap (λ (l : List ℕ). answered due l w) (sym (if-false _ _ _ f))) (stopped a [] w b r refl u))
+      let v : Err x ≡ Err (refusal_of due) = e ∙ if-false _ _ _ f in
+      let is : x ≡ refusal_of due = cc in
+      given-as (ap (λ (y : Refusal). answered y.answer [] w) is ∙ ap (λ (l : List ℕ). answered due l w) (sym (if-false _ _ _ f))) (stopped x.answer [] w b r refl u))

@@ -129,7 +129,7 @@ pub fn give_served(r: Record, place: u16, buffer: &mut [u8]) -> Reply
 {
     match drive_16::serves(r, place) {
         Ok(word) => give(r, Answer::Done, &wire_code::eight(word), buffer),
-        Err(answer) => reply_with(r, answer, 0),
+        Err(refusal) => reply_with(r, refusal.answer, 0),
     }
 }
 
@@ -145,7 +145,7 @@ pub fn give_status(r: Record, page: &[u8], buffer: &mut [u8]) -> Reply
             wire_code::put(buffer, HEAD_SIZE + VALUES_SIZE, &rest);
             reply_with(r, Answer::Done, VALUES_SIZE + KADS_SIZE)
         }
-        Err(answer) => point(r, answer, buffer),
+        Err(refusal) => point(r, refusal.answer, buffer),
     }
 }
 
@@ -154,8 +154,8 @@ pub fn take_record(r: Record, bytes: &[u8]) -> Reply
     ensures { result ≡ reply_of (take_reply (worded r) bytes.now) }
 {
     match record_16::load(bytes) {
-        Some(taken) => reply_with(taken, Answer::Done, 0),
-        None => reply_with(r, Answer::NotWellFormed, 0),
+        Ok(taken) => reply_with(taken, Answer::Done, 0),
+        Err(_) => reply_with(r, Answer::NotWellFormed, 0),
     }
 }
 

@@ -19,8 +19,9 @@ use Rattle.wire.specs.Rules.{length_wrong, Rule, breach, zero_rules}
 use Rattle.wire.proofs.Rules.{AllHold, Under, low, high, rest, under-append, under_more, hold-append, zeros-under, zeros-hold, hold-zeros}
 use Rattle.wire.proofs.Lowest.{right-length, first-hold}
 use Rattle.answer.specs.declared.Answer.TheVariants.{Done, PageLengthWrong, FieldWrong}
-use Rattle.answer.specs.Answers.{is_done}
+use Rattle.answer.specs.Answers.{is_done, sense_of, refusal_of}
 use Rattle.answer.specs.declared.Answer.{Answer}
+use Rattle.answer.specs.declared.Refusal.{Refusal}
 use Rattle.status.specs.declared.Status.{Status}
 use Rattle.answer.proofs.Numbers.{differ}
 use Rattle.kad.specs.Kad.{no_kads}
@@ -32,7 +33,7 @@ use Rattle.kad.proofs.Lowest.{first-fault}
 use Rattle.status.specs.Bytes.{status_byte4, status_byte12}
 use Rattle.status.specs.Pages.{status_code}
 use Rattle.status.specs.Rules.{descriptors_from, zeros_from, zeros_size, zero_bytes, scope_rules, field_rules, head_rules, status_rules}
-use Rattle.status.specs.Reading.{StatusRead, ruled, read_of, values, refused_status, read_status}
+use Rattle.status.specs.Reading.{StatusRead, told, ruled, read_of, values, refused_status, read_status}
 
 -- ---- the bytes that the rules point to
 
@@ -202,22 +203,45 @@ head-holds p h =
     hold-append (scope_rules p) (field_rules p) (eq-eqb _ _ h.code, (le-leb _ _ h.nexus_scope, (eq-eqb _ _ h.between, (le-leb _ _ h.set_scope, tt))))
     (le-leb _ _ h.encryption, (le-leb _ _ h.decryption, (le-leb _ _ h.index, (eq-eqb _ _ h.control, zeros-hold zeros_from (zero_bytes p) h.zeros))))
 
--- ---- values or an answer
+-- ---- values or a refusal
+
+-- a result is one thing
+ok-same : {E : Type 0} {q : Result Status E} {x y : Status} → q ≡ Ok x → q ≡ Ok y → x ≡ y
+ok-same d e = cc
+
+err-same : {E : Type 0} {q : Result Status E} {a b : E} → q ≡ Err a → q ≡ Err b → a ≡ b
+err-same d e = cc
+
+ok-not-err : {E : Type 0} {q : Result Status E} {x : Status} {a : E} → q ≡ Err a → q ≡ Ok x → ⊥
+ok-not-err d e = cc
+
+err-not-ok : {E : Type 0} {q : Result Status E} {x : Status} {a : E} → q ≡ Ok x → q ≡ Err a → ⊥
+err-not-ok d e = cc
 
 -- values are told where the answer is 0
-pub ruled-done : (r : StatusRead) (status : Status) → ruled r ≡ Ok status → (is_done r.answer ≡ true) × (r.status ≡ status)
-ruled-done r status e = cases (is_done r.answer) (λ t. (t, ok-same (if-true _ _ _ t) e)) (λ f. absurd (ok-not-err (if-false _ _ _ f) e)) where
-  ok-same : {q : Result Status Answer} {x y : Status} → q ≡ Ok x → q ≡ Ok y → x ≡ y
-  ok-same d e = cc
+pub told-done : (r : StatusRead) (status : Status) → told r ≡ Ok status → (is_done r.answer ≡ true) × (r.status ≡ status)
+told-done r status e = cases (is_done r.answer) (λ t. (t, ok-same (if-true _ _ _ t) e)) (λ f. absurd (ok-not-err (if-false _ _ _ f) e))
 
-  ok-not-err : {q : Result Status Answer} {x : Status} {a : Answer} → q ≡ Err a → q ≡ Ok x → ⊥
-  ok-not-err d e = cc
+-- and otherwise the refusal
+pub told-fault : (r : StatusRead) (x : Refusal) → told r ≡ Err x → (is_done r.answer ≡ false) × (r.answer ≡ x.answer)
+told-fault r x e = cases (is_done r.answer) (λ t. absurd (err-not-ok (if-true _ _ _ t) e)) (λ f. (f, ap (λ (y : Refusal). y.answer) (err-same (if-false _ _ _ f) e)))
 
--- and otherwise the answer
-pub ruled-fault : (r : StatusRead) (a : Answer) → ruled r ≡ Err a → (is_done r.answer ≡ false) × (r.answer ≡ a)
-ruled-fault r a e = cases (is_done r.answer) (λ t. absurd (err-not-ok (if-true _ _ _ t) e)) (λ f. (f, err-same (if-false _ _ _ f) e)) where
-  err-same : {q : Result Status Answer} {a b : Answer} → q ≡ Err a → q ≡ Err b → a ≡ b
-  err-same d e = cc
+-- the sense is the answer's
+sensed : (p : List ℕ) → (read_status p).sense ≡ sense_of (read_status p).answer
+unfolding read_status
+sensed p =
+    let fault = breach (status_rules p) (length p) in
+    cases (length_wrong descriptors_from p) (λ t. rw t refl) (λ f. rw f (cases (ltb fault (length p)) (λ t. rw t refl) (λ g. rw g refl)))
 
-  err-not-ok : {q : Result Status Answer} {x : Status} {a : Answer} → q ≡ Ok x → q ≡ Err a → ⊥
-  err-not-ok d e = cc
+-- values that the code's parts give are told
+pub told-right : (p : List ℕ) (status : Status) → ruled (read_status p) ≡ Ok status → told (read_status p) ≡ Ok status
+told-right p status e =
+    let r = read_status p in
+    cases (is_done r.answer) (λ t. if-true _ _ _ t ∙ ap Ok (ok-same (if-true _ _ _ t) e)) (λ f. absurd (ok-not-err (if-false _ _ _ f) e))
+
+-- and an answer, with its sense
+pub told-wrong : (p : List ℕ) (a : Answer) → ruled (read_status p) ≡ Err a → told (read_status p) ≡ Err (refusal_of a)
+told-wrong p a e =
+    let r = read_status p in
+    cases (is_done r.answer) (λ t. absurd (err-not-ok (if-true _ _ _ t) e))
+    (λ f. if-false _ _ _ f ∙ ap (λ s. Err (record { answer = r.answer; sense = s })) (sensed p) ∙ ap (λ x. Err (refusal_of x)) (err-same (if-false _ _ _ f) e))

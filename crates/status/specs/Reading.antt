@@ -7,6 +7,7 @@ use Rattle.wire.specs.Rules.{length_wrong, breach}
 use Rattle.answer.specs.Answers.{is_done, sense_of}
 use Rattle.answer.specs.declared.Answer.{Answer}
 use Rattle.answer.specs.declared.Sense.{Sense}
+use Rattle.answer.specs.declared.Refusal.{Refusal}
 use Rattle.answer.specs.declared.Answer.TheVariants.{Done, PageLengthWrong, FieldWrong}
 use Rattle.kad.specs.Kad.{no_kads}
 use Rattle.kad.specs.Reading.{read_kads}
@@ -66,6 +67,10 @@ read_status p =
     else when ltb fault (length p) then refused_status (FieldWrong fault)
     else read_of (values p)
 
--- the values where it is done, and otherwise the answer
+-- the values where it is done, and otherwise the refusal: "A refused answer carries its number and sense only."
+abbrev pub told : StatusRead → Result Status Refusal
+told r = when is_done r.answer then Ok r.status else Err (record { answer = r.answer; sense = r.sense })
+
+-- the same with the answer alone, as the code's parts have it
 abbrev pub ruled : StatusRead → Result Status Answer
 ruled r = when is_done r.answer then Ok r.status else Err r.answer

@@ -9,9 +9,9 @@ ghost use Rattle.status.specs.Pages.{status_code, is_in_page, is_out_page, suppo
 ghost use Rattle.status.specs.Bytes.{status_byte4, joined4, status_byte12, joined12};
 ghost use Rattle.status.specs.Status.{status_fields, status_bytes, status_with};
 ghost use Rattle.status.specs.Rules.{descriptors_from, scope_rules, field_rules, head_rules};
-ghost use Rattle.status.specs.Reading.{values_with, read_status, ruled};
+ghost use Rattle.status.specs.Reading.{values_with, read_status, told, ruled};
 
-use answer::Answer;
+use answer::{Answer, Refusal};
 use device::Set;
 use kad::Kads;
 use parameters::{ALL, ENCRYPT, MIXED};
@@ -211,8 +211,8 @@ fn values_with(page: &[u8], kads: Kads) -> Status
     }
 }
 
-// Reads a status page: its values, or answer 7, or answer 8 with the lowest faulty byte.
-pub fn read_status(page: &[u8]) -> Result<Status, Answer>
+// The values, or the answer that refuses the page.
+fn read_values(page: &[u8]) -> Result<Status, Answer>
     ensures { result ≡ ruled (read_status page.now) }
 {
     if wire_code::is_length_wrong(page, DESCRIPTORS_FROM) {
@@ -223,4 +223,14 @@ pub fn read_status(page: &[u8]) -> Result<Status, Answer>
     let end = DESCRIPTORS_FROM + list.good;
     check_rule(end as u16, page.len() <= end)?;
     Ok(values_with(page, list.kads))
+}
+
+// Reads a status page: its values, or answer 7, or answer 8 with the lowest faulty byte.
+pub fn read_status(page: &[u8]) -> Result<Status, Refusal>
+    ensures { result ≡ told (read_status page.now) }
+{
+    match read_values(page) {
+        Ok(status) => Ok(status),
+        Err(answer) => Err(answer_code::refusal_of(answer)),
+    }
 }

@@ -24,6 +24,10 @@ pub returns-in-Write : goal.returns-in-Write
 unfolding noted_each
 returns-in-Write c = c.count_at.ensures ∙ ap (λ (x : Asked). noted_each nexus_count (wrote_as x c.args.decision) c.args.rows) (sym c.in-Write.is)
 
+pub returns-in-PowerOn : goal.returns-in-PowerOn
+unfolding noted_each
+returns-in-PowerOn c = ap (λ (x : Asked). noted_each nexus_count (wrote_as x c.args.decision) c.args.rows) (sym c.in-PowerOn.is)
+
 pub returns-in_default : goal.returns-in_default
 unfolding noted_each
 returns-in_default c = sym (ap (λ (l : List Wrote). noted_each nexus_count l c.args.rows) (no-write c.args.asked c.args.decision c.in_default.not-Write))

@@ -10,13 +10,13 @@ use Rattle.drive_16.proofs.serves.Goals as goal
 
 pub returns-then-not-formed : goal.returns-then-not-formed
 unfolding served served_answer
-returns-then-not-formed c = simp (sym c.formed.ensures ∙ c.if-not-formed.true)
+returns-then-not-formed c = simp (c.refusal_of.ensures, sym c.formed.ensures ∙ c.if-not-formed.true)
 
 pub returns-then-at-ge-PLACES : goal.returns-then-at-ge-PLACES
 unfolding served served_answer
 returns-then-at-ge-PLACES c =
     let size : length c.args.r.device.sets ≡ place_count = search (rules, sized-field) in
-    simp (sym c.formed.ensures ∙ c.if-not-formed.false, size, le-leb _ _ c.if-at-ge-PLACES.true)
+    simp (c.refusal_of-then-at-ge-PLACES.ensures, sym c.formed.ensures ∙ c.if-not-formed.false, size, le-leb _ _ c.if-at-ge-PLACES.true)
 
 pub returns : goal.returns
 unfolding served served_answer

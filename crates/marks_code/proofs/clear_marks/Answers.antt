@@ -4,11 +4,11 @@ use Rattle.arrays.proofs.Loops.{rewrite-starts, rewrite-more, map-ends}
 use Rattle.device.specs.Record.{new_nexus}
 use Rattle.marks_code.proofs.clear_marks.Goals as goal
 
-pub loop-nexus-init : goal.loop-nexus-init
-loop-nexus-init c = rewrite-starts refl
+pub loop-n-init : goal.loop-n-init
+loop-n-init c = rewrite-starts refl
 
-pub loop-nexus-preserved : goal.loop-nexus-preserved
-loop-nexus-preserved c = rewrite-more c.loop-nexus.invariant (omega arith) new_nexus c.unmarked.ensures
+pub loop-n-preserved : goal.loop-n-preserved
+loop-n-preserved c = rewrite-more c.loop-n.invariant (omega arith) new_nexus c.unmarked.ensures
 
 pub returns : goal.returns
-returns c = map-ends c.loop-nexus.invariant (omega arith)
+returns c = map-ends c.loop-n.invariant (omega arith)

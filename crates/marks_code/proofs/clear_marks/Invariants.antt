@@ -3,5 +3,5 @@ use Rattle.arrays.proofs.Loops.{Rewritten}
 use Rattle.marks.specs.Reset.{unmarked}
 use Rattle.marks_code.proofs.clear_marks.Given as goal
 
-abbrev pub invariant-loop-nexus : goal.invariant-loop-nexus
-invariant-loop-nexus l = Rewritten (λ k. unmarked) (length l.initial.nexus-items) l.initial.nexus-items l.nexus-index l.nexus-items
+abbrev pub invariant-loop-n : goal.invariant-loop-n
+invariant-loop-n l = Rewritten (λ k. unmarked) (length l.initial.nexuses) l.initial.nexuses l.n l.nexuses

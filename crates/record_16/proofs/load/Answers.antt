@@ -14,4 +14,4 @@ pub returns : goal.returns
 returns c =
     let bytes = c.args.bytes.now in
     let compared = c.eq.ensures ∙ same-pointwise bytes c.as_slice.result.now ∙ ap (same_bytes bytes) c.as_slice.ensures in
-    load-refuses bytes c.record_of-record.ensures c.record_bytes.ensures compared c.if-eq.false
+    load-refuses bytes c.record_of-record.ensures c.record_bytes.ensures compared c.if-eq.false c.power_on-new.ensures
