@@ -140,6 +140,14 @@ told-done c page e = cases (is_done c.answer) (λ t. (t, ok-same (if-true _ _ _ 
 pub told-fault : (c : Checked) (x : Refusal) → told c ≡ Err x → (is_done c.answer ≡ false) × (c.answer ≡ x.answer)
 told-fault c x e = cases (is_done c.answer) (λ t. absurd (err-not-ok (if-true _ _ _ t) e)) (λ f. (f, ap (λ (y : Refusal). y.answer) (err-same (if-false _ _ _ f) e)))
 
+-- told with the answer alone, a page is given where the answer is 0
+pub ruled-done : (c : Checked) (page : Page) → ruled c ≡ Ok page → (is_done c.answer ≡ true) × (c.page ≡ page)
+ruled-done c page e = cases (is_done c.answer) (λ t. (t, ok-same (if-true _ _ _ t) e)) (λ f. absurd (ok-not-err (if-false _ _ _ f) e))
+
+-- and otherwise the answer
+pub ruled-fault : (c : Checked) (a : Answer) → ruled c ≡ Err a → (is_done c.answer ≡ false) × (c.answer ≡ a)
+ruled-fault c a e = cases (is_done c.answer) (λ t. absurd (err-not-ok (if-true _ _ _ t) e)) (λ f. (f, err-same (if-false _ _ _ f) e))
+
 -- the sense is the answer's, and of a page that is refused none of its values is read
 pub record Blank (c : Checked) : Type 0 where
   pub sensed : c.sense ≡ sense_of c.answer
@@ -180,10 +188,10 @@ blank p scope mode count =
 
 -- a page that is ruled is told
 pub told-right : (c : Checked) (page : Page) → ruled c ≡ Ok page → told c ≡ Ok page
-told-right c page e = cases (is_done c.answer) (λ t. if-true _ _ _ t ∙ ap Ok (ok-same (if-true _ _ _ t) e)) (λ f. absurd (ok-not-err (if-false _ _ _ f) e))
+told-right c page e = let (t, is) = ruled-done c page e in if-true _ _ _ t ∙ ap Ok is
 
 -- and an answer, with its sense
 pub told-wrong : (c : Checked) → Blank c → (a : Answer) → ruled c ≡ Err a → told c ≡ Err (refusal_of a)
 told-wrong c b a e =
-    cases (is_done c.answer) (λ t. absurd (err-not-ok (if-true _ _ _ t) e))
-    (λ f. if-false _ _ _ f ∙ ap (λ s. Err (record { answer = c.answer; sense = s })) b.sensed ∙ ap (λ x. Err (refusal_of x)) (err-same (if-false _ _ _ f) e))
+    let (f, is) = ruled-fault c a e in
+    if-false _ _ _ f ∙ ap (λ s. Err (record { answer = c.answer; sense = s })) b.sensed ∙ ap (λ x. Err (refusal_of x)) is

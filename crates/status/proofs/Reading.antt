@@ -226,6 +226,14 @@ told-done r status e = cases (is_done r.answer) (λ t. (t, ok-same (if-true _ _ 
 pub told-fault : (r : StatusRead) (x : Refusal) → told r ≡ Err x → (is_done r.answer ≡ false) × (r.answer ≡ x.answer)
 told-fault r x e = cases (is_done r.answer) (λ t. absurd (err-not-ok (if-true _ _ _ t) e)) (λ f. (f, ap (λ (y : Refusal). y.answer) (err-same (if-false _ _ _ f) e)))
 
+-- told with the answer alone, values are given where the answer is 0
+pub ruled-done : (r : StatusRead) (status : Status) → ruled r ≡ Ok status → (is_done r.answer ≡ true) × (r.status ≡ status)
+ruled-done r status e = cases (is_done r.answer) (λ t. (t, ok-same (if-true _ _ _ t) e)) (λ f. absurd (ok-not-err (if-false _ _ _ f) e))
+
+-- and otherwise the answer
+pub ruled-fault : (r : StatusRead) (a : Answer) → ruled r ≡ Err a → (is_done r.answer ≡ false) × (r.answer ≡ a)
+ruled-fault r a e = cases (is_done r.answer) (λ t. absurd (err-not-ok (if-true _ _ _ t) e)) (λ f. (f, err-same (if-false _ _ _ f) e))
+
 -- the sense is the answer's
 sensed : (p : List ℕ) → (read_status p).sense ≡ sense_of (read_status p).answer
 unfolding read_status
@@ -235,13 +243,11 @@ sensed p =
 
 -- values that the code's parts give are told
 pub told-right : (p : List ℕ) (status : Status) → ruled (read_status p) ≡ Ok status → told (read_status p) ≡ Ok status
-told-right p status e =
-    let r = read_status p in
-    cases (is_done r.answer) (λ t. if-true _ _ _ t ∙ ap Ok (ok-same (if-true _ _ _ t) e)) (λ f. absurd (ok-not-err (if-false _ _ _ f) e))
+told-right p status e = let (t, is) = ruled-done (read_status p) status e in if-true _ _ _ t ∙ ap Ok is
 
 -- and an answer, with its sense
 pub told-wrong : (p : List ℕ) (a : Answer) → ruled (read_status p) ≡ Err a → told (read_status p) ≡ Err (refusal_of a)
 told-wrong p a e =
     let r = read_status p in
-    cases (is_done r.answer) (λ t. absurd (err-not-ok (if-true _ _ _ t) e))
-    (λ f. if-false _ _ _ f ∙ ap (λ s. Err (record { answer = r.answer; sense = s })) (sensed p) ∙ ap (λ x. Err (refusal_of x)) (err-same (if-false _ _ _ f) e))
+    let (f, is) = ruled-fault r a e in
+    if-false _ _ _ f ∙ ap (λ s. Err (record { answer = r.answer; sense = s })) (sensed p) ∙ ap (λ x. Err (refusal_of x)) is
