@@ -8,9 +8,9 @@ use native.Mathlib.Omega.{arith}
 use borrow.Author.Tests.{lt-ltb, le-ltb, leb-true, leb-false}
 use lib.Dec.{ltb, leb}
 use lib.ListN.{length}
-use Rattle.std.specs.Prelude.{Result, Ok, Err}
+use Rattle.std.specs.Prelude.{Ok, Err}
 use Rattle.arrays.specs.Base.{when◌then◌else◌}
-use Rattle.arrays.proofs.Base.{cases, clash, if-true, if-false}
+use Rattle.arrays.proofs.Base.{clash, if-true, if-false, if-ok, if-err}
 use Rattle.wire.specs.Rules.{length_wrong, Rule, breach}
 use Rattle.wire.proofs.Rules.{under_more}
 use Rattle.wire.proofs.Lowest.{right-length}
@@ -27,19 +27,6 @@ use Rattle.page.specs.Check.{Checked, no_page, refused_page, accepted_page, publ
 use Rattle.page.specs.declared.Page.{Page}
 use Rattle.page.proofs.Parts.{open-under, match-under, plain-under, key-under, set-hold, supplemental-hold, key_fits}
 use Rattle.page.proofs.Lowest.{set-under, end_fits}
-
--- a result is one thing
-ok-same : {E : Type 0} {r : Result Page E} {x y : Page} → r ≡ Ok x → r ≡ Ok y → x ≡ y
-ok-same d e = cc
-
-err-same : {E : Type 0} {r : Result Page E} {a b : E} → r ≡ Err a → r ≡ Err b → a ≡ b
-err-same d e = cc
-
-ok-not-err : {E : Type 0} {r : Result Page E} {x : Page} {a : E} → r ≡ Err a → r ≡ Ok x → ⊥
-ok-not-err d e = cc
-
-err-not-ok : {E : Type 0} {r : Result Page E} {x : Page} {a : E} → r ≡ Ok x → r ≡ Err a → ⊥
-err-not-ok d e = cc
 
 -- what is checked once the rules are tried
 abbrev tried : List Rule → ℕ → Checked → Checked
@@ -134,19 +121,19 @@ module _ (p : List ℕ) (scope mode count : ℕ) where
 
 -- a page is told where the answer is 0
 pub told-done : (c : Checked) (page : Page) → told c ≡ Ok page → (is_done c.answer ≡ true) × (c.page ≡ page)
-told-done c page e = cases (is_done c.answer) (λ t. (t, ok-same (if-true _ _ _ t) e)) (λ f. absurd (ok-not-err (if-false _ _ _ f) e))
+told-done c page e = if-ok _ _ _ e
 
 -- and otherwise the refusal
 pub told-fault : (c : Checked) (x : Refusal) → told c ≡ Err x → (is_done c.answer ≡ false) × (c.answer ≡ x.answer)
-told-fault c x e = cases (is_done c.answer) (λ t. absurd (err-not-ok (if-true _ _ _ t) e)) (λ f. (f, ap (λ (y : Refusal). y.answer) (err-same (if-false _ _ _ f) e)))
+told-fault c x e = let (f, is) = if-err _ _ _ e in (f, ap (λ (y : Refusal). y.answer) is)
 
 -- told with the answer alone, a page is given where the answer is 0
 pub ruled-done : (c : Checked) (page : Page) → ruled c ≡ Ok page → (is_done c.answer ≡ true) × (c.page ≡ page)
-ruled-done c page e = cases (is_done c.answer) (λ t. (t, ok-same (if-true _ _ _ t) e)) (λ f. absurd (ok-not-err (if-false _ _ _ f) e))
+ruled-done c page e = if-ok _ _ _ e
 
 -- and otherwise the answer
 pub ruled-fault : (c : Checked) (a : Answer) → ruled c ≡ Err a → (is_done c.answer ≡ false) × (c.answer ≡ a)
-ruled-fault c a e = cases (is_done c.answer) (λ t. absurd (err-not-ok (if-true _ _ _ t) e)) (λ f. (f, err-same (if-false _ _ _ f) e))
+ruled-fault c a e = if-err _ _ _ e
 
 -- the sense is the answer's, and of a page that is refused none of its values is read
 pub record Blank (c : Checked) : Type 0 where

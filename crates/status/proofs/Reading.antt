@@ -11,8 +11,8 @@ use native.Mathlib.Omega.{arith}
 use borrow.Author.Tests.{eqb-true, eq-eqb, ltb-true, ltb-false, lt-ltb, le-ltb, leb-true, le-leb}
 use lib.Dec.{ltb}
 use lib.ListN.{length, drop, length-take, length-drop}
-use Rattle.std.specs.Prelude.{Result, Ok, Err}
-use Rattle.arrays.proofs.Base.{cases, if-true, if-false}
+use Rattle.std.specs.Prelude.{Ok, Err}
+use Rattle.arrays.proofs.Base.{cases, if-true, if-false, if-ok, if-err}
 use Rattle.wire.specs.Numbers.{byte_at, word_at}
 use Rattle.wire.specs.Buffers.{all_zero}
 use Rattle.wire.specs.Rules.{length_wrong, Rule, breach, zero_rules}
@@ -205,34 +205,21 @@ head-holds p h =
 
 -- ---- values or a refusal
 
--- a result is one thing
-ok-same : {E : Type 0} {q : Result Status E} {x y : Status} → q ≡ Ok x → q ≡ Ok y → x ≡ y
-ok-same d e = cc
-
-err-same : {E : Type 0} {q : Result Status E} {a b : E} → q ≡ Err a → q ≡ Err b → a ≡ b
-err-same d e = cc
-
-ok-not-err : {E : Type 0} {q : Result Status E} {x : Status} {a : E} → q ≡ Err a → q ≡ Ok x → ⊥
-ok-not-err d e = cc
-
-err-not-ok : {E : Type 0} {q : Result Status E} {x : Status} {a : E} → q ≡ Ok x → q ≡ Err a → ⊥
-err-not-ok d e = cc
-
 -- values are told where the answer is 0
 pub told-done : (r : StatusRead) (status : Status) → told r ≡ Ok status → (is_done r.answer ≡ true) × (r.status ≡ status)
-told-done r status e = cases (is_done r.answer) (λ t. (t, ok-same (if-true _ _ _ t) e)) (λ f. absurd (ok-not-err (if-false _ _ _ f) e))
+told-done r status e = if-ok _ _ _ e
 
 -- and otherwise the refusal
 pub told-fault : (r : StatusRead) (x : Refusal) → told r ≡ Err x → (is_done r.answer ≡ false) × (r.answer ≡ x.answer)
-told-fault r x e = cases (is_done r.answer) (λ t. absurd (err-not-ok (if-true _ _ _ t) e)) (λ f. (f, ap (λ (y : Refusal). y.answer) (err-same (if-false _ _ _ f) e)))
+told-fault r x e = let (f, is) = if-err _ _ _ e in (f, ap (λ (y : Refusal). y.answer) is)
 
 -- told with the answer alone, values are given where the answer is 0
 pub ruled-done : (r : StatusRead) (status : Status) → ruled r ≡ Ok status → (is_done r.answer ≡ true) × (r.status ≡ status)
-ruled-done r status e = cases (is_done r.answer) (λ t. (t, ok-same (if-true _ _ _ t) e)) (λ f. absurd (ok-not-err (if-false _ _ _ f) e))
+ruled-done r status e = if-ok _ _ _ e
 
 -- and otherwise the answer
 pub ruled-fault : (r : StatusRead) (a : Answer) → ruled r ≡ Err a → (is_done r.answer ≡ false) × (r.answer ≡ a)
-ruled-fault r a e = cases (is_done r.answer) (λ t. absurd (err-not-ok (if-true _ _ _ t) e)) (λ f. (f, err-same (if-false _ _ _ f) e))
+ruled-fault r a e = if-err _ _ _ e
 
 -- the sense is the answer's
 sensed : (p : List ℕ) → (read_status p).sense ≡ sense_of (read_status p).answer

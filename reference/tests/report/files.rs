@@ -1,6 +1,6 @@
 //! The program's arguments and the files that it writes.
 
-use crate::running::{folder, names, outcome, put_fifo, run, written_through_a_link};
+use crate::running::{folder, folder_outside, names, outcome, put_fifo, run, written_through_a_link};
 use crate::{claim_report, lines, with_arguments, DRIVE, MONTH, MONTH_ROWS, SHA256};
 use std::fs;
 use std::os::unix::fs::symlink;
@@ -39,7 +39,7 @@ fn bad_arguments_end_with_status_2() {
 
 #[test]
 fn files_that_cant_be_used_end_with_status_2() {
-    let folder = folder("report files");
+    let folder = folder_outside("report files");
     fs::copy(MONTH, folder.join("f")).expect("a copy");
     fs::hard_link(folder.join("f"), folder.join("same")).expect("a link can be made");
     symlink("f", folder.join("link")).expect("a link can be made");
@@ -65,6 +65,7 @@ fn files_that_cant_be_used_end_with_status_2() {
     }
     assert_eq!(names(&folder), ["d", "f", "fifo", "link", "same"]);
     assert_eq!(fs::read(folder.join("f")).expect("it is there"), fs::read(MONTH).expect("it is there"));
+    fs::remove_dir_all(&folder).expect("the folder can be taken away");
 }
 
 #[test]

@@ -1,14 +1,24 @@
 //! Programs of this package, run in folders of their own.
 
+use std::env;
 use std::fs;
 use std::io::Write;
 use std::os::unix::fs::{symlink, PermissionsExt};
 use std::path::{Path, PathBuf};
-use std::process::{Command, Output, Stdio};
+use std::process::{self, Command, Output, Stdio};
 
 /// A folder of its own for a test.
 pub fn folder(name: &str) -> PathBuf {
-    let folder = Path::new(env!("CARGO_TARGET_TMPDIR")).join(name);
+    emptied(Path::new(env!("CARGO_TARGET_TMPDIR")).join(name))
+}
+
+/// The same outside the checkout, for a test that makes a link: a checkout that has one isn't taken where proofs are checked.
+/// The test takes the folder away when it is done.
+pub fn folder_outside(name: &str) -> PathBuf {
+    emptied(env::temp_dir().join(format!("{name} {}", process::id())))
+}
+
+fn emptied(folder: PathBuf) -> PathBuf {
     let _ = fs::remove_dir_all(&folder);
     fs::create_dir_all(&folder).expect("a folder can be made");
     folder
@@ -24,7 +34,7 @@ pub fn put_fifo(folder: &Path, name: &str) {
 /// Writes, by `write`, to a link in a folder of its own whose file is there: the link stays, and the file keeps its
 /// permissions. Gives the new file's length.
 pub fn written_through_a_link(name: &str, write: impl Fn(&Path, &str)) -> u64 {
-    let folder = folder(name);
+    let folder = folder_outside(name);
     fs::write(folder.join("f"), "before").expect("a file can be written");
     fs::set_permissions(folder.join("f"), PermissionsExt::from_mode(0o640)).expect("they can be set");
     symlink("f", folder.join("l")).expect("a link can be made");
@@ -33,6 +43,7 @@ pub fn written_through_a_link(name: &str, write: impl Fn(&Path, &str)) -> u64 {
     let there = fs::metadata(folder.join("f")).expect("the file is there");
     assert_eq!(there.permissions().mode() & 0o777, 0o640);
     assert_eq!(names(&folder), ["f", "l"]);
+    fs::remove_dir_all(&folder).expect("the folder can be taken away");
     there.len()
 }
 
